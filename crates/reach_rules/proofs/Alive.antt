@@ -1,7 +1,7 @@
 -- The live namings of a container, as a list; or an ephemeral id is named twice.
 use Rattle.std.proofs.Common.{◌≡◌, ℕ, zero, suc, Bool, true, false, ◌==◌, List, [], ◌∷◌, ◌++◌, map, Option, Some, None, Ok, Err, ◌⊎◌, inl, inr, refl, ap, sym, ◌∙◌, subst, arith, if◌then◌else◌}
 use Rattle.std.specs.Prelude.{option_map, option_and_then}
-use Rattle.std.specs.List.{flat_map, range_with_len, find}
+use Rattle.std.specs.List.{flat_map, range_with_len}
 use Rattle.apfs_model.specs.Lists.{In, Lists, through}
 use Rattle.apfs_model.specs.Blocks.{in_container}
 use Rattle.obj_base.specs.declared.stop.Within.TheVariants.{Ephemeral}
@@ -28,7 +28,7 @@ use Rattle.reach_rules.specs.Next.{roots, next, names, names_if, unless_zero, sl
 use Rattle.reach_rules.specs.Live.{Live, rooted, led, IsLive}
 use Rattle.reach_rules.specs.Faults.{IsNamedTwice}
 use Rattle.apfs_model.proofs.BoolTests.{equal-from}
-use Rattle.apfs_model.proofs.Searches.{in-map, from-map}
+use Rattle.apfs_model.proofs.Searches.{in-map, from-map, found-in}
 use Rattle.reach_rules.specs.Laws.{Flawed}
 use Rattle.reach_rules.proofs.Chains.{Link, link_of, links, first_link, IsLinked, chain_or}
 use Rattle.reach_rules.proofs.Lives.{Ends, gather, gather_or, ends-by, live-from}
@@ -235,16 +235,6 @@ further-next image seen n e field reaper j at h s same named placed =
     let same-naming : n ≡ naming n.namer n.at e ByMapping n.oid = naming-from n e h s in
     subst (λ m. next image seen m ≡ map (reap_naming reaper) (link_of j (further seen e field n.oid (found_ephemeral image seen e n.oid)))) (sym same-naming) byhow
 
-find-in : {X : Type 0} (test : X → Bool) (xs : List X) (x : X) → find test xs ≡ Some x → In x xs × (test x ≡ true)
-find-in {X} test [] x e = absurd (let z : ◌≡◌ {A = Option X} None (Some x) = e in let q : ⊥ = cc in q)
-find-in {X} test (y ∷ ys) x e =
-    let go : (b : Bool) → test y ≡ b → (if b then Some y else find test ys) ≡ Some x → In x (y ∷ ys) × (test x ≡ true) =
-    λ b. elim b as (λ b. test y ≡ b → (if b then Some y else find test ys) ≡ Some x → In x (y ∷ ys) × (test x ≡ true)) [
-      | true ↦ λ t s. let z : ◌≡◌ {A = Option X} (Some y) (Some x) = s in let p : y ≡ x = cc in (inl (sym p), subst (λ w. test w ≡ true) p t)
-      | false ↦ λ t s. let more = find-in test ys x s in (inr more.0, more.1)
-    ] in
-    go (test y) refl e
-
 -- a list that goes on has a mapping
 known : (image : List ℕ) (seen : Seen) (k m : ℕ) → after image seen k ≡ Some m → In k (eph_ids seen)
 unfolding after further eph eph_ids
@@ -253,7 +243,7 @@ known image seen k m h =
     let go : (o : Option Place) → eph seen k ≡ o → In k (map (λ (p : Place). p.oid) seen.mapped) = λ o. elim o as (λ o. eph seen k ≡ o → In k (map (λ (p : Place). p.oid) seen.mapped)) [
       | None ↦ λ e. let z : ◌≡◌ {A = Option ℕ} None (Some m) = subst (λ o. further seen ReapList reap_next_of k (option_and_then F o) ≡ Some m) e h in absurd (let q : ⊥ = cc in q)
       | Some place ↦ λ e.
-          let t = find-in (λ (p : Place). p.oid == k) seen.mapped place e in
+          let t = found-in (λ (p : Place). p.oid == k) seen.mapped place e in
           subst (λ x. In x (map (λ (p : Place). p.oid) seen.mapped)) (equal-from place.oid k t.1) (in-map (λ (p : Place). p.oid) seen.mapped place t.0)
     ] in
     go (eph seen k) refl

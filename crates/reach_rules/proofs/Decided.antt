@@ -4,8 +4,8 @@ use Rattle.nx_ring.specs.Checkpoint.{Seen}
 use Rattle.reach_rules.specs.Accounted.{IsAccounted}
 use Rattle.reach_rules.specs.Laws.{Flawed}
 use Rattle.reach_rules.proofs.Alive.{live_or}
-use Rattle.reach_rules.proofs.NamesDecided.{named_or, once_or, plain_or, trees_or}
-use Rattle.reach_rules.proofs.SpaceDecided.{managed_or, shaped_or, then_or}
+use Rattle.reach_rules.proofs.NamesDecided.{named_or, once_or, plain_or, trees_or, then_or}
+use Rattle.reach_rules.proofs.SpaceDecided.{managed_or, shaped_or}
 use Rattle.reach_rules.proofs.SettledDecided.{used_or, owners_list, owners-lists, pool_owners_list, pool-owners-lists, settled_or, pool_settled_or}
 use Rattle.reach_rules.proofs.Refutes.{refutes, refutes-feature}
 

@@ -33,7 +33,7 @@ queue_eq Main Pool = inr (λ e. cc)
 record_by : ℕ → ℕ → ℕ → ℕ → ℕ → OmapRecord
 record_by oid xid flags size paddr = record { oid = oid; xid = xid; flags = flags; size = size; paddr = paddr }
 
-record-is : (r s : OmapRecord) → r.oid ≡ s.oid → r.xid ≡ s.xid → r.flags ≡ s.flags → r.size ≡ s.size → r.paddr ≡ s.paddr → r ≡ s
+pub record-is : (r s : OmapRecord) → r.oid ≡ s.oid → r.xid ≡ s.xid → r.flags ≡ s.flags → r.size ≡ s.size → r.paddr ≡ s.paddr → r ≡ s
 unfolding record_by
 record-is r s a b c d e = let k : record_by r.oid r.xid r.flags r.size r.paddr ≡ record_by s.oid s.xid s.flags s.size s.paddr = cc in k
 
@@ -45,7 +45,7 @@ record_eq r s = through-eq (both (cases_eq r.oid s.oid) (both (cases_eq r.xid s.
 view_by : ℕ → ℕ → ℕ → ℕ → Bool → ViewAt
 view_by slot place xid map hashed = record { slot = slot; place = place; xid = xid; map = map; hashed = hashed }
 
-view-is : (v w : ViewAt) → v.slot ≡ w.slot → v.place ≡ w.place → v.xid ≡ w.xid → v.map ≡ w.map → v.hashed ≡ w.hashed → v ≡ w
+pub view-is : (v w : ViewAt) → v.slot ≡ w.slot → v.place ≡ w.place → v.xid ≡ w.xid → v.map ≡ w.map → v.hashed ≡ w.hashed → v ≡ w
 unfolding view_by
 view-is v w a b c d e = let k : view_by v.slot v.place v.xid v.map v.hashed ≡ view_by w.slot w.place w.xid w.map w.hashed = cc in k
 
@@ -101,7 +101,7 @@ expected_eq a b = inr (λ e. cc)
 naming_by : Namer → ℕ → Expected → LookUp → ℕ → Naming
 naming_by namer at expected how oid = record { namer = namer; at = at; expected = expected; how = how; oid = oid }
 
-naming-is : (m n : Naming) → m.namer ≡ n.namer → m.at ≡ n.at → m.expected ≡ n.expected → m.how ≡ n.how → m.oid ≡ n.oid → m ≡ n
+pub naming-is : (m n : Naming) → m.namer ≡ n.namer → m.at ≡ n.at → m.expected ≡ n.expected → m.how ≡ n.how → m.oid ≡ n.oid → m ≡ n
 unfolding naming_by
 naming-is m n a b c d e = let k : naming_by m.namer m.at m.expected m.how m.oid ≡ naming_by n.namer n.at n.expected n.how n.oid = cc in k
 
@@ -127,7 +127,7 @@ who_eq a b = inr (λ e. cc)
 owner_by : Who → ℕ → ℕ → Owner
 owner_by who first blocks = record { who = who; first = first; blocks = blocks }
 
-owner-is : (a b : Owner) → a.who ≡ b.who → a.first ≡ b.first → a.blocks ≡ b.blocks → a ≡ b
+pub owner-is : (a b : Owner) → a.who ≡ b.who → a.first ≡ b.first → a.blocks ≡ b.blocks → a ≡ b
 unfolding owner_by
 owner-is a b x y z = let k : owner_by a.who a.first a.blocks ≡ owner_by b.who b.first b.blocks = cc in k
 

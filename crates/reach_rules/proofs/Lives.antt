@@ -31,7 +31,7 @@ pub live-roll : {N : Type 0} (next : N → List N) (roots : List N) (n : N) → 
 live-roll next roots n (rooted _ h) = let t = from-flat_map next n roots h in led t.0 n (rooted t.0 t.1.0) t.1.1
 live-roll next roots n (led m _ live h) = led m n (live-roll next roots m live) h
 
-live-none : {N : Type 0} (next : N → List N) (n : N) → Live [] next n → ⊥
+pub live-none : {N : Type 0} (next : N → List N) (n : N) → Live [] next n → ⊥
 live-none next n (rooted _ h) = h
 live-none next n (led m _ live h) = live-none next m live
 

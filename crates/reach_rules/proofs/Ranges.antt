@@ -9,7 +9,7 @@ use Rattle.apfs_model.specs.Apart.{Apart}
 use Rattle.reach_rules.specs.Reached.{HasBlocks, range_of, AreRangesOf}
 use Rattle.reach_rules.specs.Settled.{has_block, is_held, is_held_at, IsHeldTwice, AreApart}
 use Rattle.apfs_model.proofs.BoolTests.{test_or, clash, left-true, right-true, below-from, upto-from, equal-from}
-use Rattle.apfs_model.proofs.Searches.{in-map, from-map}
+use Rattle.apfs_model.proofs.Searches.{in-map, from-map, in-get, get-in}
 
 -- some item passes
 any-in : {X : Type 0} (test : X → Bool) (xs : List X) (x : X) → In x xs → test x ≡ true → list_any test xs ≡ true
@@ -65,22 +65,11 @@ owner-range IsOne ranges r a one some = subst (λ rs. In (range_of a) rs) (sym r
 pub range-owner : (IsOne : Owner → Type 0) (ranges : List (ℕ × ℕ)) → AreRangesOf IsOne ranges → (range : ℕ × ℕ) → In range ranges → (a : Owner) × (HasBlocks IsOne a × (range ≡ range_of a))
 range-owner IsOne ranges r range h = let s = from-map range_of r.owners range (subst (λ rs. In range rs) r.same h) in (s.0, (r.lists.0 s.0 s.1.0, s.1.1))
 
--- places in lists
-place-of : {X : Type 0} (xs : List X) (x : X) → In x xs → (i : ℕ) × (slice_get xs i ≡ Some x)
-place-of [] x h = absurd h
-place-of (y ∷ ys) x (inl e) = (0, ap Some (sym e))
-place-of (y ∷ ys) x (inr h) = let t = place-of ys x h in (suc t.0, t.1)
-
-at-place : {X : Type 0} (xs : List X) (x : X) (i : ℕ) → slice_get xs i ≡ Some x → In x xs
-at-place {X} [] x i e = absurd (let z : ◌≡◌ {A = Option X} None (Some x) = e in let q : ⊥ = cc in q)
-at-place {X} (y ∷ ys) x zero e = let z : ◌≡◌ {A = Option X} (Some y) (Some x) = e in let p : y ≡ x = cc in inl (sym p)
-at-place (y ∷ ys) x (suc i) e = inr (at-place ys x i e)
-
 -- of a list with no item twice, the items of two places differ
 places-apart : {X : Type 0} (xs : List X) (a b : X) (i j : ℕ) → Apart xs → slice_get xs i ≡ Some a → slice_get xs j ≡ Some b → i < j → a ≡ b → ⊥
 places-apart {X} [] a b i j p e f l s = let z : ◌≡◌ {A = Option X} None (Some a) = e in cc
 places-apart xs a b i zero p e f l s = absurd (omega arith)
-places-apart {X} (x ∷ xs) a b zero (suc j) p e f l s = let z : ◌≡◌ {A = Option X} (Some x) (Some a) = e in let q : x ≡ a = cc in p.0 (subst (λ w. In w xs) (sym (q ∙ s)) (at-place xs b j f))
+places-apart {X} (x ∷ xs) a b zero (suc j) p e f l s = let z : ◌≡◌ {A = Option X} (Some x) (Some a) = e in let q : x ≡ a = cc in p.0 (subst (λ w. In w xs) (sym (q ∙ s)) (get-in xs j b f))
 places-apart (x ∷ xs) a b (suc i) (suc j) p e f l s = places-apart xs a b i j p.1 e f (omega arith) s
 
 held-there : (owners : List Owner) (a : Owner) (block i : ℕ) → slice_get owners i ≡ Some a → covers a block ≡ true → is_held_at (map range_of owners) block i ≡ true
@@ -103,8 +92,8 @@ from-held owners block i h =
 -- where no block lies in two ranges, no two owners have one
 pub apart-owners : (IsOne : Owner → Type 0) (ranges : List (ℕ × ℕ)) → AreRangesOf IsOne ranges → AreApart ranges → (a b : Owner) (block : ℕ) → IsOne a → IsOne b → covers a block ≡ true → covers b block ≡ true → a ≡ b
 apart-owners IsOne ranges r apart a b block x y c d =
-    let i = place-of r.owners a (r.lists.1 a (record { one = x; some = covers-some a block c })) in
-    let j = place-of r.owners b (r.lists.1 b (record { one = y; some = covers-some b block d })) in
+    let i = in-get r.owners a (r.lists.1 a (record { one = x; some = covers-some a block c })) in
+    let j = in-get r.owners b (r.lists.1 b (record { one = y; some = covers-some b block d })) in
     let held : (o : Owner) (k : ℕ) → slice_get r.owners k ≡ Some o → covers o block ≡ true → is_held_at ranges block k ≡ true = λ o k e t. subst (λ rs. is_held_at rs block k ≡ true) (sym r.same) (held-there r.owners o block k e t) in
     elim (cases_lt i.0 j.0) as (λ _. a ≡ b) [
       | inl low ↦ absurd (apart block (record { one = i.0; other = j.0; before = low; one_has = held a i.0 i.1 c; other_has = held b j.0 j.1 d }))
@@ -134,8 +123,8 @@ twice-owners IsOne ranges r block t =
     record {
       one = i.who;
       other = j.who;
-      one_is = (r.lists.0 i.who (at-place r.owners i.who t.one i.place)).one;
-      other_is = (r.lists.0 j.who (at-place r.owners j.who t.other j.place)).one;
+      one_is = (r.lists.0 i.who (get-in r.owners t.one i.who i.place)).one;
+      other_is = (r.lists.0 j.who (get-in r.owners t.other j.who j.place)).one;
       one_covers = i.covers;
       other_covers = j.covers;
       differ = λ e. places-apart r.owners i.who j.who t.one t.other r.apart i.place j.place t.before e;

@@ -35,10 +35,10 @@ use Rattle.apfs_model.proofs.Searches.{in-left, in-right, in-append, in-flat_map
 use Rattle.reach_rules.proofs.Equal.{object_eq, owner_eq}
 use Rattle.reach_rules.proofs.Nexts.{in-next}
 use Rattle.reach_rules.specs.Laws.{Flawed}
-use Rattle.reach_rules.proofs.NamesDecided.{AllSound, each_or, found_or}
+use Rattle.reach_rules.proofs.NamesDecided.{AllSound, each_or, found_or, then_or}
 use Rattle.space_map.proofs.Places.{Shape, block-chunk}
 use Rattle.reach_rules.proofs.Sounds.{map_naming, map-live, container-map-sound, volume-map-sound}
-use Rattle.reach_rules.proofs.SpaceDecided.{Managed, each_below, told, then_or}
+use Rattle.reach_rules.proofs.SpaceDecided.{Managed, each_below, told}
 
 -- ---- records
 use-or : (image : List ℕ) (seen : Seen) (map : ℕ) (r : OmapRecord) (n : Naming) → ((f : Found) × ((resolved image seen n ≡ Some f) × (f.object ≡ OfRecord map r))) ⊎ ((f : Found) → resolved image seen n ≡ Some f → f.object ≡ OfRecord map r → ⊥)

@@ -24,7 +24,7 @@ use Rattle.apfs_model.proofs.BoolTests.{both-true}
 use Rattle.apfs_model.proofs.Inside.{inside-same}
 
 -- a header that passes its tests
-header-ok : (bytes : List ℕ) (r : Result Header (Bad HeadFault)) → is_ok (of_header bytes r) ≡ true → is_ok r ≡ true
+pub header-ok : (bytes : List ℕ) (r : Result Header (Bad HeadFault)) → is_ok (of_header bytes r) ≡ true → is_ok r ≡ true
 header-ok bytes (Ok h) e = refl
 header-ok bytes (Err (Fails why)) e = e
 header-ok bytes (Err (Unsupported feature)) e = e

@@ -1,5 +1,5 @@
 -- The space of a container is right, or something is present.
-use Rattle.std.proofs.Common.{◌≡◌, ℕ, zero, suc, ◌+◌, ◌*◌, ◌/◌, ◌%◌, ◌<◌, ◌≤◌, Bool, true, false, ◌&&◌, ◌||◌, ◌==◌, nat_lt, List, [], ◌∷◌, ◌++◌, map, length, Ok, Err, is_ok, ◌⊎◌, inl, inr, refl, sym, ◌∙◌, subst, arith, if◌then◌else◌}
+use Rattle.std.proofs.Common.{◌≡◌, ℕ, zero, suc, ◌+◌, ◌*◌, ◌/◌, ◌%◌, ◌<◌, ◌≤◌, Bool, true, false, ◌&&◌, ◌||◌, ◌==◌, nat_lt, List, [], ◌++◌, map, length, Ok, Err, is_ok, ◌⊎◌, inl, inr, refl, sym, ◌∙◌, subst, arith, if◌then◌else◌}
 use Rattle.std.specs.List.{range_with_len, list_all}
 use Rattle.apfs_model.specs.Blocks.{block_of}
 use Rattle.apfs_model.specs.Lists.{In, through}
@@ -14,7 +14,6 @@ use Rattle.space_map.specs.Chunks.{chunk_at, is_told, are_told}
 use Rattle.space_map.specs.Marks.{lacks_bitmap}
 use Rattle.space_map.specs.Tests.{is_cab, is_cib, is_chunk, is_in_pool, is_free_total}
 use Rattle.space_map.specs.Stops.{HasManager, space_features, is_bitmap_placed, IsRightCab, IsRightCib, IsRightSpace}
-use Rattle.space_map.specs.declared.fault.SpaceFault.{SpaceFault}
 use Rattle.space_map.specs.declared.fault.SpaceFault.TheVariants as spaces
 use Rattle.space_pool.specs.Bits.{is_pool_shaped, is_pool_count, is_pool_index, has_index, has_indexes, has_pool_bits}
 use Rattle.space_pool.specs.Queues.{queue_of, is_queued_in_pool}
@@ -25,15 +24,16 @@ use Rattle.reach_rules.specs.declared.fault.ReachFault.TheVariants.{Space, Pool}
 use Rattle.reach_rules.specs.Naming.{ByMapping, Whole, FreeQueue, Expected, SpaceManager, AddressBlock, InfoBlock, TreeRoot, Naming}
 use Rattle.reach_rules.specs.Resolved.{Found}
 use Rattle.reach_rules.specs.Tested.{Answer, tested}
-use Rattle.reach_rules.specs.Next.{next, unless_zero, address_naming, addresses_in, address_namings, is_cib_of, cibs_in, cib_naming, cab_namings}
+use Rattle.reach_rules.specs.Next.{unless_zero, address_naming, addresses_in, address_namings, is_cib_of, cibs_in, cib_naming, cab_namings}
 use Rattle.reach_rules.specs.Live.{led, IsLive, NamesSound}
 use Rattle.reach_rules.specs.Features.{features_through, used_features, tested_features, field_features}
 use Rattle.reach_rules.specs.Accounted.{IsPlain, IsShaped}
 use Rattle.apfs_model.proofs.BoolTests.{test_or, left-true, right-true, both-true, from-below, upto-from, from-upto, equal-from, from-equal, in-range, from-range}
 use Rattle.apfs_model.proofs.Searches.{in-right, in-map, in-filter, all-of}
+use Rattle.apfs_model.proofs.Empty.{right-none, map-none}
 use Rattle.reach_rules.proofs.Nexts.{in-next}
 use Rattle.reach_rules.specs.Laws.{Flawed}
-use Rattle.reach_rules.proofs.NamesDecided.{AllSound, each_or}
+use Rattle.reach_rules.proofs.NamesDecided.{AllSound, each_or, then_or}
 use Rattle.space_map.proofs.Places.{Shape, shape-from, cab-address, cib-address, cib-place, cib-cab, chunk-place, chunk-cib}
 use Rattle.reach_rules.proofs.Sounds.{manager_naming, manager-live, manager-there, cab-info, cib-info, cab-bytes}
 
@@ -96,16 +96,16 @@ own-live image seen d i none low =
     (in-map (address_naming InfoBlock (Whole d.object.object) m) (addresses_in m (cibs_of m)) i (in-addresses m (cibs_of m) i low (cib-address (site_of seen) m d.shape i none low))))
 
 -- chunk-info address blocks
-some-cabs : (n i : ℕ) → i < n → (n == 0) ≡ false
-some-cabs n i low = elim (test_or (n == 0)) as (λ _. (n == 0) ≡ false) [ inr f ↦ f | inl t ↦ let z : n ≡ 0 = equal-from n 0 t in absurd (omega arith) ]
+pub some-below : (n i : ℕ) → i < n → (n == 0) ≡ false
+some-below n i low = elim (test_or (n == 0)) as (λ _. (n == 0) ≡ false) [ inr f ↦ f | inl t ↦ let z : n ≡ 0 = equal-from n 0 t in absurd (omega arith) ]
 
 cab-named : (image : List ℕ) (seen : Seen) (d : Managed image seen) (i : ℕ) → i < cabs_of d.object.bytes → is_cab_named d.object.bytes i ≡ true
 unfolding is_cab_named
-cab-named image seen d i low = both-true (nat_lt i (cabs_of d.object.bytes)) (has_address d.object.bytes i) (from-below i (cabs_of d.object.bytes) low) (cab-address (site_of seen) d.object.bytes d.shape i (some-cabs (cabs_of d.object.bytes) i low) low)
+cab-named image seen d i low = both-true (nat_lt i (cabs_of d.object.bytes)) (has_address d.object.bytes i) (from-below i (cabs_of d.object.bytes) low) (cab-address (site_of seen) d.object.bytes d.shape i (some-below (cabs_of d.object.bytes) i low) low)
 
 cab-sound : (image : List ℕ) (seen : Seen) (sound : AllSound image seen) (d : Managed image seen) (i : ℕ) → i < cabs_of d.object.bytes → is_info image (site_of seen) cab_kind (address_at d.object.bytes i) ≡ true
 cab-sound image seen sound d i low =
-    let t = sound (cab_naming d i) (cab-live image seen d i (some-cabs (cabs_of d.object.bytes) i low) low) in
+    let t = sound (cab_naming d i) (cab-live image seen d i (some-below (cabs_of d.object.bytes) i low) low) in
     cab-info image seen (Whole d.object.object) (addresses_of d.object.bytes + 8 * i) i (address_at d.object.bytes i) t.0 t.1
 
 pub cab_or : (image : List ℕ) (seen : Seen) (sound : AllSound image seen) (d : Managed image seen) (i : ℕ) → i < cabs_of d.object.bytes → IsRightCab image (site_of seen) d.object.bytes i ⊎ Flawed image seen
@@ -231,19 +231,11 @@ total_or image seen sound d =
       | inr wrong ↦ inr (inl (Space spaces.FreeTotal, (m, d.object.block, d.there, (all-of (is_told image (site_of seen) m) (range_with_len 0 (chunks_of m)) (λ k h. told image seen sound d k (let l = from-range 0 (chunks_of m) k h in omega arith)), wrong))))
     ]
 
--- no feature of the manager
-append-empty : {X : Type 0} (xs ys : List X) → xs ++ ys ≡ [] → ys ≡ []
-append-empty [] ys e = e
-append-empty {X} (x ∷ xs) ys e = absurd (let z : ◌≡◌ {A = List X} (x ∷ (xs ++ ys)) [] = e in let q : ⊥ = cc in q)
-
-map-empty : {X Y : Type 0} (f : X → Y) (xs : List X) → map f xs ≡ [] → xs ≡ []
-map-empty f [] e = refl
-map-empty {X} {Y} f (x ∷ xs) e = absurd (let z : ◌≡◌ {A = List Y} (f x ∷ map f xs) [] = e in let q : ⊥ = cc in q)
-
-ok-features : (image : List ℕ) (seen : Seen) (e : Expected) (f : Found) (a : Answer) → is_ok a ≡ true → tested_features image seen e f a ≡ field_features image seen e f.block f.bytes
+pub ok-features : (image : List ℕ) (seen : Seen) (e : Expected) (f : Found) (a : Answer) → is_ok a ≡ true → tested_features image seen e f a ≡ field_features image seen e f.block f.bytes
 ok-features image seen e f (Ok b) t = refl
 ok-features image seen e f (Err bad) t = absurd (let z : false ≡ true = t in let q : ⊥ = cc in q)
 
+-- no feature of the manager
 manager-plain : (image : List ℕ) (seen : Seen) → IsPlain image seen → (f : Found) → NamesSound image seen (manager_naming seen) f → space_features f.bytes ≡ []
 unfolding features_through
 manager-plain image seen plain f n =
@@ -251,8 +243,8 @@ manager-plain image seen plain f n =
     let T = tested (site_of seen) SpaceManager (space_oid_of seen.nx) f.bytes in
     let some : used_features (site_of seen) f.object ++ tested_features image seen SpaceManager f T ≡ [] =
     subst (λ o. through o (λ (g : Found). used_features (site_of seen) g.object ++ tested_features image seen SpaceManager g (tested (site_of seen) SpaceManager (space_oid_of seen.nx) g.bytes)) ≡ []) n.names.found all in
-    let rest = append-empty (used_features (site_of seen) f.object) (tested_features image seen SpaceManager f T) some in
-    map-empty (λ (feature : Feature). (feature, f.block)) (space_features f.bytes) (sym (ok-features image seen SpaceManager f T n.sound) ∙ rest)
+    let rest = right-none (used_features (site_of seen) f.object) (tested_features image seen SpaceManager f T) some in
+    map-none (λ (feature : Feature). (feature, f.block)) (space_features f.bytes) (sym (ok-features image seen SpaceManager f T n.sound) ∙ rest)
 
 -- the manager is there and shaped
 pub managed_or : (image : List ℕ) (seen : Seen) → AllSound image seen → Managed image seen ⊎ Flawed image seen
@@ -263,10 +255,6 @@ managed_or image seen sound =
       | inr wrong ↦ inr (inl (Space spaces.Geometry, (t.0.bytes, t.0.block, there, wrong)))
       | inl shaped ↦ inl (record { object = t.0; names = t.1; there = there; shaped = shaped; shape = shape-from (site_of seen) t.0.bytes shaped })
     ]
-
--- a part holds, and then the next, or something is present
-pub then_or : {A B T : Type 0} → A ⊎ T → (A → B ⊎ T) → B ⊎ T
-then_or {A} {B} {T} a next = elim a as (λ _. B ⊎ T) [ inl x ↦ next x | inr t ↦ inr t ]
 
 pub space_or : (image : List ℕ) (seen : Seen) → AllSound image seen → IsPlain image seen → (d : Managed image seen) → IsRightSpace image (site_of seen) d.object.bytes ⊎ Flawed image seen
 space_or image seen sound plain d =

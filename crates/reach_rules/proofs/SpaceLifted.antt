@@ -1,5 +1,5 @@
 -- What is told of the space of a container is present in the container.
-use Rattle.std.proofs.Common.{◌≡◌, ℕ, ◌+◌, ◌*◌, ◌/◌, ◌%◌, ◌<◌, Bool, true, false, ◌&&◌, ◌==◌, nat_lt, List, map, Option, Some, None, Result, Ok, Err, is_ok, inl, inr, refl, ap, ◌++◌, sym, ◌∙◌, subst, arith, if◌then◌else◌}
+use Rattle.std.proofs.Common.{◌≡◌, ℕ, ◌+◌, ◌*◌, ◌/◌, ◌%◌, Bool, true, false, ◌&&◌, ◌==◌, nat_lt, List, map, Option, Some, None, Result, Ok, Err, is_ok, inl, inr, refl, ap, ◌++◌, sym, ◌∙◌, subst, arith, if◌then◌else◌}
 use Rattle.std.specs.Prelude.{option_map, option_and_then, is_some}
 use Rattle.std.specs.List.{range_with_len}
 use Rattle.apfs_model.specs.Blocks.{block_of, in_container}
@@ -29,13 +29,14 @@ use Rattle.reach_rules.specs.Tested.{Answer, of_header, head_tested, tested}
 use Rattle.reach_rules.specs.Next.{unless_zero, address_naming, addresses_in, address_namings, is_cib_of, cibs_in, cib_naming, cab_namings}
 use Rattle.reach_rules.specs.Live.{led, IsLive, NamesSound}
 use Rattle.reach_rules.specs.Faults.{Present}
-use Rattle.reach_rules.specs.Features.{used_features, tested_features, placed_in, features_through, HasFeature, of}
+use Rattle.reach_rules.specs.Features.{used_features, tested_features, features_through, HasFeature, of}
 use Rattle.reach_rules.specs.Raised.{of_space}
-use Rattle.apfs_model.proofs.BoolTests.{test_or, equal-from, left-true, right-true, both-true, below-from, from-equal, in-range}
+use Rattle.apfs_model.proofs.BoolTests.{left-true, right-true, both-true, below-from, from-equal, in-range}
 use Rattle.apfs_model.proofs.Searches.{in-right, in-map, in-filter}
+use Rattle.apfs_model.proofs.Inside.{inside-itself}
 use Rattle.reach_rules.proofs.Nexts.{in-next}
 use Rattle.reach_rules.proofs.Sounds.{manager_naming, manager-live}
-use Rattle.reach_rules.proofs.SpaceDecided.{in-if-true, in-if-false}
+use Rattle.reach_rules.proofs.SpaceDecided.{in-if-true, in-if-false, some-below}
 
 abbrev eph_found : ℕ → ℕ → List ℕ → Found
 eph_found oid block bytes = record { object = OfId oid; block = block; bytes = bytes }
@@ -71,7 +72,7 @@ manager-lost image seen at =
     go (eph seen oid) at
 
 -- a header's answer, said of a named object
-ok-header : (bytes : List ℕ) (r : Result Header (Bad HeadFault)) → is_ok r ≡ true → is_ok (of_header bytes r) ≡ true
+pub ok-header : (bytes : List ℕ) (r : Result Header (Bad HeadFault)) → is_ok r ≡ true → is_ok (of_header bytes r) ≡ true
 ok-header bytes (Ok h) e = refl
 ok-header bytes (Err (Fails why)) e = e
 ok-header bytes (Err (Unsupported feature)) e = e
@@ -97,9 +98,6 @@ address-named image seen manager block h n k =
           (in-right n (unless_zero me 248 (TreeRoot (FreeQueue Main)) ByMapping (main_queue_of manager)) (address_namings me manager) k);
     }))
 
-some-below : (n i : ℕ) → i < n → (n == 0) ≡ false
-some-below n i low = elim (test_or (n == 0)) as (λ _. (n == 0) ≡ false) [ inr f ↦ f | inl t ↦ let z : n ≡ 0 = equal-from n 0 t in absurd (omega arith) ]
-
 abbrev cab_naming_of : Seen → List ℕ → ℕ → Naming
 cab_naming_of seen manager i = address_naming AddressBlock (Whole (OfId (space_oid_of seen.nx))) manager i
 
@@ -113,7 +111,7 @@ cab-named-live image seen manager block i h e =
     (in-map (address_naming AddressBlock me manager) (addresses_in manager (cabs_of manager)) i (in-filter (has_address manager) i (range_with_len 0 (cabs_of manager)) (in-range 0 (cabs_of manager) i (omega arith) (omega arith)) fits)))
 
 -- what a block of the container is found as
-block-found : (image : List ℕ) (seen : Seen) (namer : Namer) (at : ℕ) (e : Expected) (oid : ℕ) → in_container (site_of seen).blocks oid ≡ Some oid → resolved image seen (naming namer at e ByBlock oid) ≡ Some (standing image (site_of seen) (InBlock oid) oid)
+pub block-found : (image : List ℕ) (seen : Seen) (namer : Namer) (at : ℕ) (e : Expected) (oid : ℕ) → in_container (site_of seen).blocks oid ≡ Some oid → resolved image seen (naming namer at e ByBlock oid) ≡ Some (standing image (site_of seen) (InBlock oid) oid)
 unfolding resolved
 block-found image seen namer at e oid inside = ap (λ (o : Option ℕ). option_map (λ b. standing image (site_of seen) (InBlock b) b) o) inside
 
@@ -121,21 +119,13 @@ block-lost : (image : List ℕ) (seen : Seen) (namer : Namer) (at : ℕ) (e : Ex
 unfolding resolved
 block-lost image seen namer at e oid outside = ap (λ (o : Option ℕ). option_map (λ b. standing image (site_of seen) (InBlock b) b) o) outside
 
-inside-some : (blocks b : ℕ) → is_some (in_container blocks b) ≡ true → in_container blocks b ≡ Some b
-inside-some blocks b e =
-    let go : (t : Bool) → is_some (if t then Some b else None) ≡ true → (if t then Some b else None) ≡ Some b = λ t. elim t as (λ t. is_some (if t then Some b else None) ≡ true → (if t then Some b else None) ≡ Some b) [
-      | true ↦ λ _. refl
-      | false ↦ λ s. absurd (let z : false ≡ true = s in let q : ⊥ = cc in q)
-    ] in
-    go (nat_lt 0 b && nat_lt b blocks) e
-
 -- a sound chunk-info address block is sound as it is named
 cab-is-sound : (image : List ℕ) (seen : Seen) (manager : List ℕ) (block i : ℕ) → HasManager seen manager block → is_cab_named manager i ≡ true → is_info image (site_of seen) cab_kind (address_at manager i) ≡ true →
     NamesSound image seen (cab_naming_of seen manager i) (standing image (site_of seen) (InBlock (address_at manager i)) (address_at manager i))
 unfolding is_info tested
 cab-is-sound image seen manager block i h named info =
     let oid = address_at manager i in
-    let inside = inside-some (site_of seen).blocks oid (left-true (is_some (in_container (site_of seen).blocks oid)) _ info) in
+    let inside = inside-itself (site_of seen).blocks oid (left-true (is_some (in_container (site_of seen).blocks oid)) _ info) in
     record {
       names = record { live = cab-named-live image seen manager block i h named; found = block-found image seen _ _ (AddressBlock i) oid inside };
       sound = ok-header (block_of (site_of seen).block_size image oid) (info_test image (site_of seen) cab_kind oid) (right-true (is_some (in_container (site_of seen).blocks oid)) _ info);
@@ -147,11 +137,11 @@ pub record CibNamed (image : List ℕ) (seen : Seen) (manager : List ℕ) (i : �
   pub at : ℕ
   pub live : IsLive image seen (naming namer at (InfoBlock i) ByBlock (cib_block (site_of seen).block_size image manager i))
 
-own-block : (B : ℕ) (image manager : List ℕ) (i : ℕ) → (cabs_of manager == 0) ≡ true → cib_block B image manager i ≡ address_at manager i
+pub own-block : (B : ℕ) (image manager : List ℕ) (i : ℕ) → (cabs_of manager == 0) ≡ true → cib_block B image manager i ≡ address_at manager i
 unfolding cib_block
 own-block B image manager i e = ap (λ (b : Bool). if b then address_at manager i else cab_address_at (block_of B image (cab_block_for manager i)) (i % cab_cibs_of manager)) e
 
-other-block : (B : ℕ) (image manager : List ℕ) (i : ℕ) → (cabs_of manager == 0) ≡ false → cib_block B image manager i ≡ cab_address_at (block_of B image (cab_block_for manager i)) (i % cab_cibs_of manager)
+pub other-block : (B : ℕ) (image manager : List ℕ) (i : ℕ) → (cabs_of manager == 0) ≡ false → cib_block B image manager i ≡ cab_address_at (block_of B image (cab_block_for manager i)) (i % cab_cibs_of manager)
 unfolding cib_block
 other-block B image manager i e = ap (λ (b : Bool). if b then address_at manager i else cab_address_at (block_of B image (cab_block_for manager i)) (i % cab_cibs_of manager)) e
 

@@ -1,5 +1,5 @@
 -- What is told of a physical tree whose root is named is present in the container: of object maps, their snapshots, snapshot metadata and extent references.
-use Rattle.std.proofs.Common.{◌≡◌, ℕ, ◌<◌, Bool, true, false, List, [], length, Option, Some, None, Result, Ok, Err, ◌⊎◌, inl, inr, refl, ap, sym, ◌∙◌, subst, arith}
+use Rattle.std.proofs.Common.{◌≡◌, ℕ, ◌<◌, Bool, true, false, List, [], length, Option, Some, None, Result, Ok, Err, inl, inr, refl, ap, sym, ◌∙◌, subst, arith}
 use Rattle.std.specs.Prelude.{slice_get, option_map, option_and_then, flat_map}
 use Rattle.apfs_model.specs.Blocks.{in_container}
 use Rattle.apfs_model.specs.Lists.{through, value_of, passes}
@@ -36,11 +36,7 @@ use Rattle.reach_rules.specs.Raised.{of_walk, of_extents}
 use Rattle.apfs_model.proofs.Searches.{passing-below}
 use Rattle.reach_rules.proofs.Walks.{IsWalkOf, IsRootNaming, walk-present}
 use Rattle.reach_rules.proofs.Looks.{records-walk, snapshots-walk, metadata-walk, extents-walk, standing-by}
-
--- a root that is found has a node, or the walk tells why not
-found-or : (o : Option Found) → ((f : Found) × (o ≡ Some f)) ⊎ (o ≡ None)
-found-or None = inr refl
-found-or (Some f) = inl (f, refl)
+use Rattle.reach_rules.proofs.NamesDecided.{found_or}
 
 -- a root of physical nodes that is found stands in the block of its number
 root-block : (image : List ℕ) (seen : Seen) (kind : TreeKind) (root : ℕ) (r : IsRootNaming image seen kind ByBlock root) (f : Found) → resolved image seen r.naming ≡ Some f → f.block ≡ root
@@ -75,7 +71,7 @@ no-node image seen kind shape walk root r node ok none =
 -- the root of a tree that has an item, or a wrong count, is found
 pub root-found : {K : Type 0} (image : List ℕ) (seen : Seen) (kind : TreeKind) (shape : Shape K) → IsWalkOf image seen kind ByBlock shape (in_container (site_of seen).blocks) → (root : ℕ) (r : IsRootNaming image seen kind ByBlock root) →
     (node : List ℕ) → (tree_in shape (site_of seen) (in_container (site_of seen).blocks) image).look (root_place root) ≡ Ok node → NamesRoot image seen kind r.naming root
-root-found image seen kind shape walk root r node ok = elim (found-or (resolved image seen r.naming)) as (λ _. NamesRoot image seen kind r.naming root) [
+root-found image seen kind shape walk root r node ok = elim (found_or (resolved image seen r.naming)) as (λ _. NamesRoot image seen kind r.naming root) [
   | inr none ↦ absurd (no-node image seen kind shape walk root r node ok none)
   | inl t ↦ record { object = t.0; names = record { live = r.live; found = t.1 }; root = r.expected_is; at = sym (root-block image seen kind root r t.0 t.1) }
 ]

@@ -1,8 +1,8 @@
 -- The places that a walk over a tree meets are named: live namings lead from that of the root to each of them.
-use Rattle.std.proofs.Common.{◌≡◌, ℕ, suc, ◌<◌, true, false, List, [], ◌∷◌, ◌++◌, Option, Some, None, Result, Ok, Err, is_ok, ◌⊎◌, inl, inr, refl, ap, sym, ◌∙◌, subst, arith}
+use Rattle.std.proofs.Common.{◌≡◌, ℕ, suc, ◌<◌, true, false, List, [], ◌∷◌, Option, Some, None, Result, Ok, Err, is_ok, ◌⊎◌, inl, inr, refl, ap, sym, ◌∙◌, subst, arith}
 use Rattle.std.specs.List.{range_with_len}
 use Rattle.apfs_model.specs.Blocks.{block_of}
-use Rattle.apfs_model.specs.Lists.{In, through}
+use Rattle.apfs_model.specs.Lists.{In}
 use Rattle.obj_base.specs.declared.stop.Bad.{Bad}
 use Rattle.obj_base.specs.declared.stop.Bad.TheVariants as bads
 use Rattle.obj_base.specs.declared.stop.Stop.{Stop}
@@ -28,12 +28,13 @@ use Rattle.reach_rules.specs.Resolved.{Found, resolved, found_by, is_node}
 use Rattle.reach_rules.specs.Tested.{Answer, of_node, node_answer, node_tested, tested}
 use Rattle.reach_rules.specs.Next.{names, children_in, child_namings, node_namings}
 use Rattle.reach_rules.specs.Live.{IsLive, led}
-use Rattle.reach_rules.specs.Features.{Placed, HasFeature, of, used_features, tested_features, features_through}
+use Rattle.reach_rules.specs.Features.{HasFeature, of, tested_features}
 use Rattle.reach_rules.specs.Faults.{IsUnsound, IsUnnamed, within_of, xid_of, Present}
 use Rattle.reach_rules.specs.Raised.{of_walk}
 use Rattle.apfs_model.proofs.BoolTests.{test_or, in-range}
-use Rattle.apfs_model.proofs.Searches.{in-right, in-map, all-of}
+use Rattle.apfs_model.proofs.Searches.{in-map, all-of}
 use Rattle.reach_rules.proofs.Nexts.{in-next}
+use Rattle.reach_rules.proofs.NamesDecided.{in-features}
 
 -- what is found by a naming's id, and the block that a walk finds by it
 abbrev pub Matches : List ℕ → Site → Option Found → Option ℕ → Type 0
@@ -49,7 +50,7 @@ pub record IsWalkOf {K : Type 0} (image : List ℕ) (seen : Seen) (kind : TreeKi
   pub found : (e : Expected) (oid : ℕ) → is_node e ≡ true → Matches image (site_of seen) (found_by image seen how e oid) (block_named (site_of seen) named oid)
 
 -- a place is that of a root, or of a node of a level
-abbrev AsPlace : TreeKind → NodeAt → Expected → Type 0
+abbrev pub AsPlace : TreeKind → NodeAt → Expected → Type 0
 AsPlace kind at e =
     ((e ≡ TreeRoot kind) × (at ≡ root_place at.oid))
     ⊎ ((level : ℕ) × ((pair : Pair) × ((e ≡ TreeNode kind level) × (at ≡ child_place level pair))))
@@ -63,7 +64,7 @@ pub record IsNamedAt (image : List ℕ) (seen : Seen) (kind : TreeKind) (how : L
   pub as_is : AsPlace kind at naming.expected
 
 -- the tests of the naming are those of the place
-tests : (site : Site) (kind : TreeKind) (at : NodeAt) (e : Expected) (oid : ℕ) (bytes : List ℕ) → oid ≡ at.oid → AsPlace kind at e → tested site e oid bytes ≡ node_tested kind at site bytes
+pub tests : (site : Site) (kind : TreeKind) (at : NodeAt) (e : Expected) (oid : ℕ) (bytes : List ℕ) → oid ≡ at.oid → AsPlace kind at e → tested site e oid bytes ≡ node_tested kind at site bytes
 unfolding tested
 tests site kind at e oid bytes s (inl (p, q)) =
     ap (λ x. tested site x oid bytes) p ∙ (ap (λ o. node_tested kind (root_place o) site bytes) s ∙ ap (λ a. node_tested kind a site bytes) (sym q))
@@ -72,7 +73,7 @@ tests site kind at e oid bytes s (inr (level, (pair, (p, q)))) =
     ap (λ x. tested site x oid bytes) p
     ∙ (ap (λ o. node_tested kind (place o) site bytes) (s ∙ ap (λ (a : NodeAt). a.oid) q) ∙ ap (λ a. node_tested kind a site bytes) (sym q))
 
-as-node : (kind : TreeKind) (at : NodeAt) (e : Expected) → AsPlace kind at e → is_node e ≡ true
+pub as-node : (kind : TreeKind) (at : NodeAt) (e : Expected) → AsPlace kind at e → is_node e ≡ true
 as-node kind at e (inl (p, q)) = ap is_node p
 as-node kind at e (inr (level, (pair, (p, q)))) = ap is_node p
 
@@ -200,13 +201,6 @@ Told image seen how (Fails walks.Counts) = ⊥
 Told image seen how (Unsupported feature block) = HasFeature image seen feature block
 Told image seen how ReadFault = ⊥
 Told image seen how NoMemory = ⊥
-
--- a feature of a test is one through its naming
-in-features : (image : List ℕ) (seen : Seen) (n : Naming) (f : Found) (x : Placed) → resolved image seen n ≡ Some f → In x (tested_features image seen n.expected f (tested (site_of seen) n.expected n.oid f.bytes)) → In x (features_through image seen n)
-unfolding features_through
-in-features image seen n f x e h =
-    subst (λ o. In x (through o (λ (g : Found). used_features (site_of seen) g.object ++ tested_features image seen n.expected g (tested (site_of seen) n.expected n.oid g.bytes)))) (sym e)
-    (in-right x (used_features (site_of seen) f.object) (tested_features image seen n.expected f (tested (site_of seen) n.expected n.oid f.bytes)) h)
 
 judged-told : (image : List ℕ) (seen : Seen) (how : LookUp) (n : Naming) (f : Found) (r : Result (List ℕ) (Bad NodeFault)) (why : Stop WalkFault) → IsLive image seen n → resolved image seen n ≡ Some f → tested (site_of seen) n.expected n.oid f.bytes ≡ of_node r → judged f.block r ≡ Err why → Told image seen how why
 judged-told image seen how n f (Ok node) why live found t e = absurd (cc)
