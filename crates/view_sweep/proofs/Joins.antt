@@ -1,7 +1,8 @@
 -- One more that is sought.
-use Rattle.std.proofs.Common.{◌≡◌, ℕ, Bool, true, false, ◌||◌, List, [], ◌∷◌, ◌++◌, ◌⊎◌, inl, inr, refl, ap, sym, ◌∙◌, subst}
+use Rattle.std.proofs.Common.{◌≡◌, ℕ, true, ◌||◌, List, [], ◌∷◌, ◌++◌, ◌⊎◌, inl, inr, refl, ap, sym, ◌∙◌, subst}
 use Rattle.apfs_model.specs.Lists.{In}
 use Rattle.apfs_model.proofs.Searches.{in-left, in-right}
+use Rattle.apfs_model.proofs.BoolTests.{left-or, right-or, either-from}
 use Rattle.view_sweep.specs.declared.runs.Run.{Run}
 use Rattle.view_sweep.specs.declared.sets.ViewSet.{ViewSet}
 use Rattle.view_sweep.specs.declared.joining.Sought.{Sought}
@@ -13,17 +14,6 @@ use Rattle.view_sweep.specs.Wanted.{number_by}
 use Rattle.view_sweep.specs.Sets.{set_at, view_of, IsFirst, IsSetOf}
 use Rattle.view_sweep.specs.Asked.{has_view, IsUnder, HasAsked, HasSought, IsJoined, AreSought, AreOfSets}
 use Rattle.view_sweep.proofs.Ranked.{in-push, every-push}
-
-or-parts : (b c : Bool) → (b || c) ≡ true → (b ≡ true) ⊎ (c ≡ true)
-or-parts true c e = inl refl
-or-parts false c e = inr e
-
-or-left : (b c : Bool) → b ≡ true → (b || c) ≡ true
-or-left b c e = ap (λ (x : Bool). x || c) e
-
-or-right : (b c : Bool) → c ≡ true → (b || c) ≡ true
-or-right true c e = refl
-or-right false c e = e
 
 -- a new one
 pub joined-new : (w : Wanted) (set : List Run) (old new : List Sought) (s : Sought) → new ≡ old ++ s ∷ [] → s.wanted ≡ w → s.set.items ≡ set → IsJoined w set old new
@@ -51,15 +41,15 @@ joined-last w set front old new last more e f same under bits =
           one = more;
           listed = here;
           under = whole oid number (record { oid_is = sym (ap (λ (x : Sought). x.wanted.oid) q) ∙ h.under.oid_is; number_is = sym (ap (λ (x : Sought). number_by x.wanted.want) q) ∙ h.under.number_is });
-          has = bits p ∙ or-left (has_place last.set.items p) (has_place set p) (sym (ap (λ (x : Sought). has_place x.set.items p) q) ∙ h.has);
+          has = bits p ∙ left-or (has_place last.set.items p) (has_place set p) (sym (ap (λ (x : Sought). has_place x.set.items p) q) ∙ h.has);
         }
       ];
-      more = λ p h. record { one = more; listed = here; under = whole w.oid (number_by w.want) under; has = bits p ∙ or-right (has_place last.set.items p) (has_place set p) h };
+      more = λ p h. record { one = more; listed = here; under = whole w.oid (number_by w.want) under; has = bits p ∙ right-or (has_place last.set.items p) (has_place set p) h };
       only = λ oid number p h. elim (in-push h.one front more (subst (In h.one) f h.listed)) as (λ _. HasSought old oid number p ⊎ (IsUnder w oid number × (has_place set p ≡ true))) [
         | inl i ↦ inl (record { one = h.one; listed = subst (In h.one) (sym e) (in-left h.one front (last ∷ []) i); under = h.under; has = h.has })
         | inr q ↦
             let u : IsUnder last.wanted oid number = record { oid_is = sym (ap (λ (x : Wanted). x.oid) same) ∙ (sym (ap (λ (x : Sought). x.wanted.oid) q) ∙ h.under.oid_is); number_is = sym (ap (λ (x : Wanted). number_by x.want) same) ∙ (sym (ap (λ (x : Sought). number_by x.wanted.want) q) ∙ h.under.number_is) } in
-            elim (or-parts (has_place last.set.items p) (has_place set p) (sym (bits p) ∙ (sym (ap (λ (x : Sought). has_place x.set.items p) q) ∙ h.has))) as (λ _. HasSought old oid number p ⊎ (IsUnder w oid number × (has_place set p ≡ true))) [
+            elim (either-from (has_place last.set.items p) (has_place set p) (sym (bits p) ∙ (sym (ap (λ (x : Sought). has_place x.set.items p) q) ∙ h.has))) as (λ _. HasSought old oid number p ⊎ (IsUnder w oid number × (has_place set p ≡ true))) [
               | inl a ↦ inl (record { one = last; listed = subst (In last) (sym e) (in-right last front (last ∷ []) (inl refl)); under = u; has = a })
               | inr b ↦ inr (record { oid_is = sym under.oid_is ∙ u.oid_is; number_is = sym under.number_is ∙ u.number_is }, b)
             ]
@@ -73,7 +63,7 @@ sets-new views set old new s e bits all is = every-push (λ (x : Sought). IsSetO
 set-or : (views : List SweptView) (a b new : List Run) → IsSetOf views a → IsSetOf views b → AreRising new → ((p : ℕ) → has_place new p ≡ (has_place a p || has_place b p)) → IsSetOf views new
 set-or views a b new x y rises bits = record {
   rising = rises;
-  first = λ p e. elim (or-parts (has_place a p) (has_place b p) (sym (bits p) ∙ e)) as (λ _. IsFirst views (view_of views p) p) [ inl f ↦ x.first p f | inr f ↦ y.first p f ];
+  first = λ p e. elim (either-from (has_place a p) (has_place b p) (sym (bits p) ∙ e)) as (λ _. IsFirst views (view_of views p) p) [ inl f ↦ x.first p f | inr f ↦ y.first p f ];
 }
 
 pub sets-last : (views : List SweptView) (set : List Run) (front old new : List Sought) (last more : Sought) → old ≡ front ++ last ∷ [] → new ≡ front ++ more ∷ [] → AreRising more.set.items → ((p : ℕ) → has_place more.set.items p ≡ (has_place last.set.items p || has_place set p)) → AreOfSets views old → IsSetOf views set → AreOfSets views new

@@ -20,7 +20,8 @@ use Rattle.bt_node.proofs.Laws.{node_means}
 use Rattle.bt_keys.specs.Shapes.{fs_shape, fs_plain_shape}
 use Rattle.omap_map.specs.declared.records.OmapRecord.{OmapRecord}
 use Rattle.reach_rules.specs.declared.naming.TreeKind.TheVariants.{Files}
-use Rattle.reach_rules.specs.Tested.{Answer, node_answer, of_node, of_header, tested}
+use Rattle.reach_rules.specs.Tested.{Answer, node_answer, of_node, tested}
+use Rattle.reach_rules.proofs.Sounds.{header-ok}
 use Rattle.view_sweep.specs.declared.wanted.SweptView.{SweptView}
 use Rattle.view_sweep.specs.declared.wanted.Want.{Want}
 use Rattle.view_sweep.specs.declared.wanted.Want.TheVariants.{Root, Metadata, Node}
@@ -76,11 +77,6 @@ root-node v oid site bytes h = file-node v.hashed (root_at oid) site bytes h
 below-node : (v : SweptView) (oid level : ℕ) (r : OmapRecord) (entry : ℕ) (site : Site) (bytes : List ℕ) → is_sound site (wanted v oid (Node level r entry)) bytes ≡ true → IsFileNode (below_at oid level) bytes
 unfolding tested
 below-node v oid level r entry site bytes h = file-node v.hashed (below_at oid level) site bytes h
-
-header-ok : (bytes : List ℕ) (r : Result Header (Bad HeadFault)) → is_ok (of_header bytes r) ≡ true → is_ok r ≡ true
-header-ok bytes (Ok h) e = refl
-header-ok bytes (Err (bads.Found why)) e = absurd (let z : false ≡ true = e in let q : ⊥ = cc in q)
-header-ok bytes (Err (bads.Unsupported feature)) e = absurd (let z : false ≡ true = e in let q : ⊥ = cc in q)
 
 metadata-kind : (v : SweptView) (oid : ℕ) (site : Site) (bytes : List ℕ) → is_sound site (wanted v oid Metadata) bytes ≡ true → kind_of bytes ≡ extended_metadata_kind
 unfolding tested

@@ -1,6 +1,7 @@
 -- Two that are asked for under one id of a view.
-use Rattle.std.proofs.Common.{◌≡◌, ℕ, ◌+◌, ◌<◌, ◌≤◌, Bool, true, false, ◌||◌, List, length, ◌⊎◌, inl, inr, refl, ap, sym, ◌∙◌, subst, arith}
-use Rattle.std.proofs.lemmas.Bool.{cases_lt, both_ways}
+use Rattle.std.proofs.Common.{◌≡◌, ℕ, ◌+◌, ◌<◌, ◌≤◌, true, ◌||◌, List, length, ◌⊎◌, inl, inr, refl, ap, sym, ◌∙◌, subst, arith}
+use Rattle.std.proofs.lemmas.Bool.{cases_lt}
+use Rattle.apfs_model.proofs.BoolTests.{left-or, right-or}
 use Rattle.obj_base.specs.declared.stop.Within.TheVariants.{Volume}
 use Rattle.view_sweep.specs.declared.runs.Run.{Run}
 use Rattle.view_sweep.specs.declared.sets.ViewSet.{ViewSet}
@@ -29,16 +30,6 @@ nth-numbered n asked j low within = low (nth_asked asked j) (place-in asked j no
 -- a set that is kept rises
 pub set-rising : (views : List SweptView) (sets : List ViewSet) (asked : List Asked) (j : ℕ) (runs : List Run) → AreSets views sets → AreNumbered (length sets) asked → j < length asked → runs ≡ set_at sets (nth_asked asked j).set → AreRising runs
 set-rising views sets asked j runs proper low within e = subst AreRising (sym e) (proper (nth_asked asked j).set (nth-numbered (length sets) asked j low within)).rising
-
--- ---- what two sets share
-
-or-left : (b c : Bool) → b ≡ true → (b || c) ≡ true
-or-left true c e = refl
-or-left false c e = absurd (both_ways _ refl e)
-
-or-right : (b c : Bool) → c ≡ true → (b || c) ≡ true
-or-right true c e = refl
-or-right false c e = e
 
 -- ---- a run of those of one id
 
@@ -72,8 +63,8 @@ run-again views sets asked seen new from i r here alike rises bits =
       ];
       less = r.less;
       known = λ j p low high e. bits p ∙ elim (last-or j i high) as (λ _. (has_place seen p || has_view sets (nth_asked asked i) p) ≡ true) [
-        | inl a ↦ or-left (has_place seen p) _ (r.known j p low a e)
-        | inr b ↦ or-right (has_place seen p) _ (ap (λ (n : ℕ). has_view sets (nth_asked asked n) p) b ∙ e)
+        | inl a ↦ left-or (has_place seen p) _ (r.known j p low a e)
+        | inr b ↦ right-or (has_place seen p) _ (ap (λ (n : ℕ). has_view sets (nth_asked asked n) p) b ∙ e)
       ];
       once = λ j k low high. once-more views sets asked i r.once (λ n a e. elim (cases_lt n from) as (λ _. AreAlikeAt views sets asked n i) [
         | inl before ↦ let less : (nth_asked asked n).wanted.oid < (nth_asked asked from).wanted.oid = r.less n before in absurd (omega (arith, less, e, here))

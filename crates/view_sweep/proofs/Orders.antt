@@ -9,6 +9,7 @@ use Rattle.std.specs.List.Sorted.{IsSortedBy}
 use Rattle.std.proofs.lemmas.Bool.Decides.{nat_tests}
 use Rattle.std.proofs.lemmas.List.Sorted.{ranks_by, sorted_far}
 use Rattle.omap_map.specs.declared.records.OmapRecord.{OmapRecord}
+use Rattle.reach_rules.proofs.Equal.{record-is}
 use Rattle.view_sweep.specs.declared.wanted.SweptView.{SweptView}
 use Rattle.view_sweep.specs.declared.wanted.Want.{Want}
 use Rattle.view_sweep.specs.declared.wanted.Wanted.{Wanted}
@@ -41,13 +42,6 @@ pub hit_order : IsStrictWeakOrder is_hit_below
 hit_order = ranks_by used_total used_of
 
 -- records by their parts
-record_by : ℕ → ℕ → ℕ → ℕ → ℕ → OmapRecord
-record_by oid xid flags size paddr = record { oid = oid; xid = xid; flags = flags; size = size; paddr = paddr }
-
-record-is : (r s : OmapRecord) → r.oid ≡ s.oid → r.xid ≡ s.xid → r.flags ≡ s.flags → r.size ≡ s.size → r.paddr ≡ s.paddr → r ≡ s
-unfolding record_by
-record-is r s a b c d e = let k : record_by r.oid r.xid r.flags r.size r.paddr ≡ record_by s.oid s.xid s.flags s.size s.paddr = cc in k
-
 use_by : ℕ → OmapRecord → Used
 use_by map mapping = record { map = map; mapping = mapping }
 

@@ -1,7 +1,6 @@
 -- Through which views records are used, said of namings.
-use Rattle.std.proofs.Common.{◌≡◌, ℕ, ◌<◌, ◌≤◌, true, List, length, Option, Some, None, refl, ap, sym, ◌∙◌, subst, arith}
-use Rattle.std.specs.Prelude.{◌↔◌, option_and_then, option_map}
-use Rattle.apfs_model.specs.Blocks.{in_container}
+use Rattle.std.proofs.Common.{◌≡◌, ℕ, ◌<◌, true, List, length, Option, Some, refl, ap, sym, ◌∙◌, subst, arith}
+use Rattle.std.specs.Prelude.{◌↔◌}
 use Rattle.apfs_model.specs.Lists.{In}
 use Rattle.apfs_model.proofs.Searches.{from-map}
 use Rattle.obj_base.specs.declared.site.Site.{Site}
@@ -25,7 +24,7 @@ use Rattle.view_sweep.specs.declared.wanted.Head.{Head}
 use Rattle.view_sweep.specs.declared.wanted.Wanted.{Wanted}
 use Rattle.view_sweep.specs.declared.used.Share.{Share}
 use Rattle.view_sweep.specs.Wanted.{view_at, naming_of, AreToldHeads}
-use Rattle.view_sweep.specs.Found.{world, looked, placed, records_at}
+use Rattle.view_sweep.specs.Found.{world, looked, records_at}
 use Rattle.view_sweep.specs.Named.{head_namings}
 use Rattle.view_sweep.specs.Sets.{view_of, IsFirst}
 use Rattle.view_sweep.specs.Swept.{IsLive}
@@ -34,22 +33,13 @@ use Rattle.view_sweep.proofs.Losts.{nobody}
 use Rattle.view_sweep.proofs.Named.{IsMapped}
 use Rattle.view_sweep.proofs.Ranked.{place-in}
 use Rattle.view_sweep.proofs.Reached.{found-as, live-naming, naming-live, live-view}
-
--- the record by which an object is found has its id
-placed-oid : (site : Site) (o : Option OmapRecord) (r : OmapRecord) → option_and_then (placed site) o ≡ Some r → o ≡ Some r
-placed-oid site None r e = absurd (let z : ◌≡◌ {A = Option OmapRecord} None (Some r) = e in let q : ⊥ = cc in q)
-placed-oid site (Some x) r e =
-    let go : (o : Option ℕ) → option_map (λ (block : ℕ). x) o ≡ Some r → ◌≡◌ {A = Option OmapRecord} (Some x) (Some r) = λ o. elim o as (λ o. option_map (λ (block : ℕ). x) o ≡ Some r → ◌≡◌ {A = Option OmapRecord} (Some x) (Some r)) [
-      | None ↦ λ z. absurd (let y : ◌≡◌ {A = Option OmapRecord} None (Some r) = z in let q : ⊥ = cc in q)
-      | Some b ↦ λ z. z
-    ] in
-    go (in_container site.blocks x.paddr) e
+use Rattle.view_sweep.proofs.Since.{looked-is}
 
 looked-oid : (volumes : List Loaded) (site : Site) (w : Wanted) (r : OmapRecord) → looked volumes site w ≡ Some r → r.oid ≡ w.oid
 unfolding looked
 looked-oid volumes site w r e =
     let records : List OmapRecord = records_at volumes w.view.volume in
-    (resolved-means records w.oid w.view.xid r (placed-oid site (resolves records w.oid w.view.xid) r e)).same
+    (resolved-means records w.oid w.view.xid r (looked-is site (resolves records w.oid w.view.xid) r e)).same
 
 -- the view at a place is one of the heads'
 head-at : (heads : List Head) (p : ℕ) → p < length (head_views heads) → (h : Head) × (In h heads × (view_of (head_views heads) p ≡ h.view))

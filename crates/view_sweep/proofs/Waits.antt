@@ -2,6 +2,7 @@
 use Rattle.std.proofs.Common.{◌≡◌, ℕ, suc, ◌-◌, ◌<◌, ◌≤◌, Bool, true, false, ◌==◌, cond, List, [], ◌∷◌, ◌++◌, length, map, inl, inr, refl, ap, ap₂, sym, ◌∙◌, subst, arith}
 use Rattle.std.specs.List.{filter}
 use Rattle.std.proofs.lemmas.Grind.{flat_map-append}
+use Rattle.std.proofs.lemmas.List.Elements.{filter-append}
 use Rattle.apfs_model.specs.Lists.{In}
 use Rattle.apfs_model.proofs.Searches.{in-left, in-right, in-append, in-map, from-map, from-filter}
 use Rattle.view_sweep.specs.declared.sets.ViewSet.{ViewSet}
@@ -43,15 +44,6 @@ level-dropped w level [] e = refl
 level-dropped w level (v ∷ vs) e =
     ap (λ (b : Bool). cond b (of_view w v ∷ filter (at_level level) (map (of_view w) vs)) (filter (at_level level) (map (of_view w) vs))) e
     ∙ level-dropped w level vs e
-
-filter-append : {X : Type 0} (p : X → Bool) (xs ys : List X) → filter p (xs ++ ys) ≡ filter p xs ++ filter p ys
-filter-append p [] ys = refl
-filter-append {X} p (x ∷ xs) ys =
-    let go : (b : Bool) → cond b (x ∷ filter p (xs ++ ys)) (filter p (xs ++ ys)) ≡ cond b (x ∷ filter p xs) (filter p xs) ++ filter p ys = λ b. elim b as (λ b. cond b (x ∷ filter p (xs ++ ys)) (filter p (xs ++ ys)) ≡ cond b (x ∷ filter p xs) (filter p xs) ++ filter p ys) [
-      | true ↦ ap (λ (zs : List X). x ∷ zs) (filter-append p xs ys)
-      | false ↦ filter-append p xs ys
-    ] in
-    go (p x)
 
 asked-level : (views : List SweptView) (sets : List ViewSet) (level : ℕ) (kids : List Asked) → all_asked views sets (filter (λ (a : Asked). level_of a.wanted == level) kids) ≡ filter (at_level level) (all_asked views sets kids)
 asked-level views sets level [] = refl

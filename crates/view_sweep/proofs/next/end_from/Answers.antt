@@ -1,4 +1,3 @@
-use Rattle.std.proofs.Common.{◌≤◌}
 use Rattle.view_sweep.proofs.Stretches.{stretch-front}
 use Rattle.view_sweep.proofs.next.end_from.Goals as goal
 

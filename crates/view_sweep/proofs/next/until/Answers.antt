@@ -1,4 +1,4 @@
-use Rattle.std.proofs.Common.{◌≡◌, ◌<◌, ℕ, List, IfSome, refl, sym, subst, arith}
+use Rattle.std.proofs.Common.{◌<◌, List, IfSome, refl, subst, arith}
 use Rattle.omap_map.specs.declared.records.OmapRecord.{OmapRecord}
 use Rattle.view_sweep.specs.Next.{AreNoneAfter, IsNext}
 use Rattle.view_sweep.proofs.Stretches.{IsKnownNext, like-stretch, like-first, like-both}
