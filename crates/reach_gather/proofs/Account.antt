@@ -1,8 +1,9 @@
 -- What the parts and the views of a container tell of its account.
-use Rattle.std.proofs.Common.{◌≡◌, ℕ, Bool, true, false, not, ◌==◌, List, inl, inr, refl, ap, sym, ◌∙◌, subst, arith}
+use Rattle.std.proofs.Common.{◌≡◌, ℕ, Bool, not, ◌==◌, List, inl, inr, refl, ap, sym, ◌∙◌, subst, arith}
 use Rattle.std.specs.List.{filter}
 use Rattle.apfs_model.specs.Lists.{Lists}
 use Rattle.apfs_model.proofs.Searches.{in-filter, from-filter, filter-test}
+use Rattle.apfs_model.proofs.BoolTests.{not-true}
 use Rattle.nx_ring.specs.Checkpoint.{Seen}
 use Rattle.omap_map.specs.declared.records.OmapRecord.{OmapRecord}
 use Rattle.reach_rules.specs.declared.naming.TreeKind.{TreeKind}
@@ -50,13 +51,9 @@ trees-told image seen all views records j right n kind live e = elim (j.part.spl
   | inr l ↦ let v = view-live image seen n l in view-right image seen n.expected kind n.oid v.expects e
 ]
 
-not-zero : (b : Bool) → not b ≡ true → b ≡ false
-not-zero true e = absurd (let z : false ≡ true = e in let q : ⊥ = cc in q)
-not-zero false e = refl
-
 blocks-told : (P : Owner → Type 0) (owners : List Owner) → Lists owners P → Lists (filter has_blocks owners) (HasBlocks P)
 blocks-told P owners l = (
-  (λ a h. record { one = l.0 a (from-filter has_blocks a owners h); some = not-zero (a.blocks == 0) (filter-test has_blocks a owners h) }),
+  (λ a h. record { one = l.0 a (from-filter has_blocks a owners h); some = not-true (a.blocks == 0) (filter-test has_blocks a owners h) }),
   (λ a h. in-filter has_blocks a owners (l.1 a h.one) (ap not h.some)),
 )
 

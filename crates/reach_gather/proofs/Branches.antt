@@ -1,5 +1,5 @@
 -- What a tree adds that was walked.
-use Rattle.std.proofs.Common.{◌≡◌, ℕ, false, Option, None, Some, List, [], ◌∷◌, ◌++◌, map, inl, inr, refl, ap, sym, ◌∙◌, subst}
+use Rattle.std.proofs.Common.{◌≡◌, ℕ, Option, None, Some, List, [], ◌∷◌, ◌++◌, map, inl, inr, refl, ap, sym, ◌∙◌, subst}
 use Rattle.std.proofs.lemmas.List.{append-nil}
 use Rattle.apfs_model.specs.Lists.{In}
 use Rattle.apfs_model.proofs.Searches.{from-map}
@@ -26,17 +26,22 @@ use Rattle.reach_gather.specs.Steps.{block_steps, id_steps, block_owner}
 use Rattle.reach_gather.proofs.Growing.{grew-none, grew-put, fits-more, grewby-one, grewby-join}
 use Rattle.reach_gather.proofs.Owning.{own-block, pool-block, own-id, pool-id, OwnBlocks, grewby-blocks}
 
+-- a naming of a step is looked up as the root is, and expects a node of a level
+record IsBelow (kind : TreeKind) (root n : Naming) : Type 0 where
+  level : ℕ
+  how_is : n.how ≡ root.how
+  expects : n.expected ≡ TreeNode kind level
+
+below : (object : ℕ → Object) (kind : TreeKind) (root : Naming) (steps : List Step) (n : Naming) → In n (map (step_naming object kind root.how) steps) → IsBelow kind root n
+below object kind root steps n h =
+    let t = from-map (step_naming object kind root.how) steps n h in
+    record { level = level_below t.0.level; how_is = ap (λ (m : Naming). m.how) t.1.1; expects = ap (λ (m : Naming). m.expected) t.1.1 }
+
 -- the nodes below a root own their blocks
 pub nodes-own : (image : List ℕ) (seen : Seen) (kind : TreeKind) (root : Naming) (steps : List Step) → root.how ≡ ByBlock → AreNamingsOf image seen root (tree_namings InBlock kind root steps) → OwnBlocks image seen (map (step_naming InBlock kind root.how) steps)
 nodes-own image seen kind root steps how are = record {
-  owners = λ n h.
-      let t = from-map (step_naming InBlock kind root.how) steps n h in
-      let s : Step = t.0 in
-      own-block image seen n (TreeNode kind (level_below s.level)) (are.plain n (inr h)) (ap (λ (m : Naming). m.how) t.1.1 ∙ how) (ap (λ (m : Naming). m.expected) t.1.1) refl;
-  pool_owners = λ n h.
-      let t = from-map (step_naming InBlock kind root.how) steps n h in
-      let s : Step = t.0 in
-      pool-block image seen n (TreeNode kind (level_below s.level)) (are.plain n (inr h)) (ap (λ (m : Naming). m.how) t.1.1 ∙ how) (ap (λ (m : Naming). m.expected) t.1.1) refl;
+  owners = λ n h. let b = below InBlock kind root steps n h in own-block image seen n (TreeNode kind b.level) (are.plain n (inr h)) (b.how_is ∙ how) b.expects refl;
+  pool_owners = λ n h. let b = below InBlock kind root steps n h in pool-block image seen n (TreeNode kind b.level) (are.plain n (inr h)) (b.how_is ∙ how) b.expects refl;
 }
 
 -- the owners through the naming of a root
@@ -69,12 +74,8 @@ tree-right image seen object kind root steps is right n k (inl e) at =
     let kinds : kind ≡ k = cc in
     subst (λ (m : Naming). IsRightTree image seen k m.oid) (sym e) (subst (λ x. IsRightTree image seen x root.oid) kinds right)
 tree-right image seen object kind root steps is right n k (inr h) at =
-    let t = from-map (step_naming object kind root.how) steps n h in
-    let s : Step = t.0 in
-    absurd (let none : None ≡ Some k = ap (λ (m : Naming). kind-in m.expected) (sym t.1.1) ∙ ap kind-in at in let q : ⊥ = cc in q)
-
-pub by-block : (root : Naming) → root.how ≡ ByBlock → is_in_view root.how ≡ false
-by-block root how = ap is_in_view how
+    let b = below object kind root steps n h in
+    absurd (let none : None ≡ Some k = ap kind-in (sym b.expects) ∙ ap kind-in at in let q : ⊥ = cc in q)
 
 -- a tree of physical nodes, from the naming of its root on: what its root tells was added with it, and then the nodes below
 pub tree-adds : (image : List ℕ) (seen : Seen) (kind : TreeKind) (root : Naming) (steps : List Step) (a b c : Held) → root.how ≡ ByBlock → root.expected ≡ TreeRoot kind → AreNamingsOf image seen root (tree_namings InBlock kind root steps) → IsRightTree image seen kind root.oid
@@ -89,7 +90,7 @@ tree-adds image seen kind root steps a b c how is are right pool p q r s t u =
     record {
       these = root ∷ nodes;
       part = part-tree image seen root (root ∷ nodes) are;
-      outside = (outside-views image seen).tree InBlock kind root steps (by-block root how);
+      outside = (outside-views image seen).tree InBlock kind root steps (ap is_in_view how);
       trees = tree-right image seen InBlock kind root steps is right;
       grew = grewby-join image seen (root ∷ []) nodes a b c
           (grewby-one image seen root a b p
@@ -113,18 +114,9 @@ grewby-nothing image seen ns a b own p q r = record {
 
 ids-own : (image : List ℕ) (seen : Seen) (kind : TreeKind) (root : Naming) (steps : List Step) → root.how ≡ ByMapping → AreNamingsOf image seen root (tree_namings OfId kind root steps) → OwnNothing image seen (map (step_naming OfId kind root.how) steps)
 ids-own image seen kind root steps how are = record {
-  owners = λ n h.
-      let t = from-map (step_naming OfId kind root.how) steps n h in
-      let s : Step = t.0 in
-      own-id image seen n (TreeNode kind (level_below s.level)) (are.plain n (inr h)) (ap (λ (m : Naming). m.how) t.1.1 ∙ how) (ap (λ (m : Naming). m.expected) t.1.1);
-  pool_owners = λ n h.
-      let t = from-map (step_naming OfId kind root.how) steps n h in
-      let s : Step = t.0 in
-      pool-id image seen n (TreeNode kind (level_below s.level)) (are.plain n (inr h)) (ap (λ (m : Naming). m.how) t.1.1 ∙ how) (ap (λ (m : Naming). m.expected) t.1.1);
+  owners = λ n h. let b = below OfId kind root steps n h in own-id image seen n (TreeNode kind b.level) (are.plain n (inr h)) (b.how_is ∙ how) b.expects;
+  pool_owners = λ n h. let b = below OfId kind root steps n h in pool-id image seen n (TreeNode kind b.level) (are.plain n (inr h)) (b.how_is ∙ how) b.expects;
 }
-
-by-id : (root : Naming) → root.how ≡ ByMapping → is_in_view root.how ≡ false
-by-id root how = ap is_in_view how
 
 -- a tree of ephemeral nodes, from the naming of its root on: what its root tells was added with it, and then the nodes below
 pub queue-adds : (image : List ℕ) (seen : Seen) (kind : TreeKind) (root : Naming) (steps : List Step) (a b c : Held) → root.how ≡ ByMapping → root.expected ≡ TreeRoot kind → AreNamingsOf image seen root (tree_namings OfId kind root steps) → IsRightTree image seen kind root.oid
@@ -138,7 +130,7 @@ queue-adds image seen kind root steps a b c how is are right p q r s t u =
     record {
       these = root ∷ nodes;
       part = part-tree image seen root (root ∷ nodes) are;
-      outside = (outside-views image seen).tree OfId kind root steps (by-id root how);
+      outside = (outside-views image seen).tree OfId kind root steps (ap is_in_view how);
       trees = tree-right image seen OfId kind root steps is right;
       grew = grewby-join image seen (root ∷ []) nodes a b c
           (grewby-one image seen root a b p

@@ -33,11 +33,12 @@ use Rattle.reach_rules.specs.declared.owner.Who.TheVariants.{Bitmap}
 use Rattle.reach_rules.specs.declared.owner.Owner.{Owner}
 use Rattle.reach_rules.specs.Owners.{owner, tells_of_chunks, object_owners, told_owners, owners_through}
 use Rattle.reach_rules.specs.PoolOwners.{pool_object_owners, pool_told_owners, pool_owners_through, is_chunk_of, has_bitmap_in, bitmaps_in, bitmap_owner, bitmap_owners}
+use Rattle.reach_rules.proofs.SpaceLifted.{own-block, other-block}
+use Rattle.reach_rules.proofs.SpaceDecided.{some-below}
 use Rattle.reach_gather.specs.Namings.{IsPlainNaming}
 use Rattle.reach_gather.specs.Container.{block_namings}
 use Rattle.reach_gather.specs.Space.{manager_namer, blocks_namings}
 use Rattle.reach_gather.proofs.Container.{plain-block, plain-facts}
-use Rattle.reach_gather.proofs.SpacePart.{own-block, other-block}
 use Rattle.reach_gather.specs.Held.{Held, Grew, IsOwnerThrough, GrewBy}
 use Rattle.reach_gather.specs.Infos.{room_of, known_cab, known_cib, known_cabs, known_cibs, bitmaps_from}
 use Rattle.reach_gather.specs.Steps.{block_owner}
@@ -45,6 +46,7 @@ use Rattle.reach_gather.proofs.Growing.{grew-none, grew-put, fits-more}
 use Rattle.reach_gather.proofs.Owning.{own-plain, pool-plain}
 use Rattle.reach_gather.proofs.Numbered.{HasBitmap, in-bitmaps, from-bitmaps}
 use Rattle.reach_gather.proofs.Indexed.{infos-apart}
+use Rattle.reach_gather.proofs.SpacePart.{IsInfoAt, IsAddressAt, from-addresses}
 
 -- ---- what is known of a space, by its manager
 pub cabs-known : (image : List ℕ) (seen : Seen) (space : Known) → IsSpaceOf image seen space → space.cabs ≡ map (address_at space.manager) (range_with_len 0 (cabs_of space.manager))
@@ -163,9 +165,6 @@ in-address seen manager i some low fits =
     subst (λ (b : Bool). In x (if b then map (address_naming InfoBlock me manager) (addresses_in manager (cibs_of manager)) else map (address_naming AddressBlock me manager) (addresses_in manager (cabs_of manager)))) (sym some)
     (in-map (address_naming AddressBlock me manager) (addresses_in manager (cabs_of manager)) i (in-filter (has_address manager) i (range_with_len 0 (cabs_of manager)) (in-range 0 (cabs_of manager) i (omega arith) (omega arith)) fits))
 
-some-below : (n i : ℕ) → i < n → (n == 0) ≡ false
-some-below n i low = elim (test_or (n == 0)) as (λ _. (n == 0) ≡ false) [ inr f ↦ f | inl t ↦ let z : n ≡ 0 = equal-from n 0 t in absurd (omega arith) ]
-
 cab-in : (image : List ℕ) (seen : Seen) (space : Known) (i : ℕ) → IsSpaceOf image seen space → i < cabs_of space.manager → In (cab_at seen space.manager i) (address_namings (manager_namer seen.nx) space.manager)
 cab-in image seen space i is low =
     let some = some-below (cabs_of space.manager) i low in
@@ -238,49 +237,24 @@ below-in image seen space i n is some h =
     let low : c < cibs_of manager = omega (arith, l) in
     in-cibs seen space c n low (t.1.1 ∙ (ap (λ k. by k c) (sym of) ∙ sym (cib-other image seen space c is some low)))
 
-from-own : (image : List ℕ) (seen : Seen) (space : Known) (x n : Naming) → IsSpaceOf image seen space → IsPlainNaming image seen x → (cabs_of space.manager == 0) ≡ true
-    → In x (map (address_naming InfoBlock (manager_namer seen.nx) space.manager) (addresses_in space.manager (cibs_of space.manager))) → In n (block_namings image seen x) → In n (Infos seen space)
-from-own image seen space x n is p none h k =
-    let manager = space.manager in
-    let me = manager_namer seen.nx in
-    let t = from-map (address_naming InfoBlock me manager) (addresses_in manager (cibs_of manager)) x h in
-    let c : ℕ = t.0 in
-    let l : c < 0 + cibs_of manager = from-range 0 (cibs_of manager) c (from-filter (has_address manager) c (range_with_len 0 (cibs_of manager)) t.1.0) in
-    let low : c < cibs_of manager = omega (arith, l) in
-    elim k as (λ _. In n (Infos seen space)) [
-      | inl e ↦ in-cibs seen space c n low (e ∙ (t.1.1 ∙ sym (cib-own image seen space c is none low)))
-      | inr m ↦ absurd (subst (λ ns. In n ns) (info-next image seen x c p (ap (λ (y : Naming). y.expected) t.1.1)) m)
-    ]
-
-from-address : (image : List ℕ) (seen : Seen) (space : Known) (x n : Naming) → IsSpaceOf image seen space → IsPlainNaming image seen x → (cabs_of space.manager == 0) ≡ false
-    → In x (map (address_naming AddressBlock (manager_namer seen.nx) space.manager) (addresses_in space.manager (cabs_of space.manager))) → In n (block_namings image seen x) → In n (Infos seen space)
-from-address image seen space x n is p some h k =
-    let manager = space.manager in
-    let me = manager_namer seen.nx in
-    let t = from-map (address_naming AddressBlock me manager) (addresses_in manager (cabs_of manager)) x h in
-    let i : ℕ = t.0 in
-    let l : i < 0 + cabs_of manager = from-range 0 (cabs_of manager) i (from-filter (has_address manager) i (range_with_len 0 (cabs_of manager)) t.1.0) in
-    let low : i < cabs_of manager = omega (arith, l) in
-    elim k as (λ _. In n (Infos seen space)) [
-      | inl e ↦ in-cabs seen space i n low (e ∙ (t.1.1 ∙ sym (cab-same image seen space i is low)))
-      | inr m ↦
-          let q : IsPlainNaming image seen (cab_at seen manager i) = subst (IsPlainNaming image seen) t.1.1 p in
-          below-in image seen space i n is some (subst (λ ns. In n ns) (cab-next image seen manager is.block i is.manager q) (subst (λ y. In n (next image seen y)) t.1.1 m))
-    ]
+from-named : (image : List ℕ) (seen : Seen) (space : Known) (x n : Naming) → IsSpaceOf image seen space → IsPlainNaming image seen x → IsInfoAt space.manager (manager_namer seen.nx) x ⊎ IsAddressAt space.manager (manager_namer seen.nx) x
+    → In n (block_namings image seen x) → In n (Infos seen space)
+from-named image seen space x n is p (inl (none, a)) k = elim k as (λ _. In n (Infos seen space)) [
+  | inl e ↦ in-cibs seen space a.index n a.low (e ∙ (a.is ∙ sym (cib-own image seen space a.index is none a.low)))
+  | inr m ↦ absurd (subst (λ ns. In n ns) (info-next image seen x a.index p (ap (λ (y : Naming). y.expected) a.is)) m)
+]
+from-named image seen space x n is p (inr (some, a)) k = elim k as (λ _. In n (Infos seen space)) [
+  | inl e ↦ in-cabs seen space a.index n a.low (e ∙ (a.is ∙ sym (cab-same image seen space a.index is a.low)))
+  | inr m ↦
+      let q : IsPlainNaming image seen (cab_at seen space.manager a.index) = subst (IsPlainNaming image seen) a.is p in
+      below-in image seen space a.index n is some (subst (λ ns. In n ns) (cab-next image seen space.manager is.block a.index is.manager q) (subst (λ y. In n (next image seen y)) a.is m))
+]
 
 pub from-blocks : (image : List ℕ) (seen : Seen) (space : Known) (n : Naming) → IsSpaceOf image seen space → ArePlain image seen space → In n (blocks_namings image seen space.manager) → In n (Infos seen space)
 from-blocks image seen space n is plain h =
-    let manager = space.manager in
     let me = manager_namer seen.nx in
-    let t = from-flat_map (block_namings image seen) n (address_namings me manager) h in
-    let x : Naming = t.0 in
-    let p : IsPlainNaming image seen x = plain x (head-in image seen manager x t.1.0) in
-    let infos : List Naming = map (address_naming InfoBlock me manager) (addresses_in manager (cibs_of manager)) in
-    let cabs : List Naming = map (address_naming AddressBlock me manager) (addresses_in manager (cabs_of manager)) in
-    elim (test_or (cabs_of manager == 0)) as (λ _. In n (Infos seen space)) [
-      | inl none ↦ from-own image seen space x n is p none (subst (λ (b : Bool). In x (if b then infos else cabs)) none t.1.0) t.1.1
-      | inr some ↦ from-address image seen space x n is p some (subst (λ (b : Bool). In x (if b then infos else cabs)) some t.1.0) t.1.1
-    ]
+    let t = from-flat_map (block_namings image seen) n (address_namings me space.manager) h in
+    from-named image seen space t.0 n is (plain t.0 (head-in image seen space.manager t.0 t.1.0)) (from-addresses space.manager me t.0 t.1.0) t.1.1
 
 -- ---- the owners through them
 objects-none : (n : Naming) → tells_of_chunks n.expected ≡ true → object_owners n (InBlock n.oid) ≡ []
@@ -352,7 +326,7 @@ blocks-expect image seen space n kind is plain h e = absurd (kinds-none image se
 abbrev Told : List ℕ → Seen → Known → List Owner
 Told image seen space = map block_owner (known_cabs (space_oid_of seen.nx) space) ++ (map block_owner (known_cibs (space_oid_of seen.nx) space) ++ bitmaps_from 0 space.chunks)
 
-chunk-there : (B : ℕ) (image manager : List ℕ) (c k : ℕ) → k / cib_chunks_of manager ≡ c → chunk_in (block_of B image (cib_block B image manager c)) (k % cib_chunks_of manager) ≡ chunk_at B image manager k
+pub chunk-there : (B : ℕ) (image manager : List ℕ) (c k : ℕ) → k / cib_chunks_of manager ≡ c → chunk_in (block_of B image (cib_block B image manager c)) (k % cib_chunks_of manager) ≡ chunk_at B image manager k
 unfolding chunk_at
 chunk-there B image manager c k e = ap (λ i. chunk_in (block_of B image (cib_block B image manager i)) (k % cib_chunks_of manager)) (sym e)
 

@@ -1,5 +1,5 @@
 -- The parts of a container, and all of them.
-use Rattle.std.proofs.Common.{◌≡◌, ℕ, Bool, true, false, ◌==◌, List, [], ◌∷◌, ◌++◌, map, Option, Some, None, Ok, Err, is_ok, ◌⊎◌, inl, inr, refl, ap, sym, ◌∙◌, subst, if◌then◌else◌}
+use Rattle.std.proofs.Common.{◌≡◌, ℕ, Bool, true, false, ◌==◌, List, [], ◌∷◌, ◌++◌, map, Option, Some, None, ◌⊎◌, inl, inr, refl, ap, sym, ◌∙◌, subst, if◌then◌else◌}
 use Rattle.std.specs.Prelude.{option_map, option_and_then}
 use Rattle.apfs_model.specs.Blocks.{in_container}
 use Rattle.apfs_model.specs.Lists.{In, through}
@@ -15,7 +15,6 @@ use Rattle.reach_rules.specs.declared.naming.Namer.TheVariants.{Whole}
 use Rattle.reach_rules.specs.declared.naming.Expected.{Expected}
 use Rattle.reach_rules.specs.declared.naming.Expected.TheVariants.{SpaceManager, AddressBlock, InfoBlock}
 use Rattle.reach_rules.specs.declared.naming.Naming.{Naming}
-use Rattle.reach_rules.specs.Naming.{naming}
 use Rattle.reach_rules.specs.Resolved.{Found, resolved, standing, found_by, found_physical, found_ephemeral, is_node, mapped, mapped_node}
 use Rattle.reach_rules.specs.Tested.{Answer, tested}
 use Rattle.reach_rules.specs.Next.{names, next, address_naming, addresses_in, address_namings}
@@ -23,18 +22,19 @@ use Rattle.reach_rules.specs.Live.{IsSoundFor}
 use Rattle.reach_rules.specs.Features.{used_features, field_features, tested_features, features_through}
 use Rattle.reach_rules.proofs.Looks.{standing-by}
 use Rattle.reach_rules.proofs.Nexts.{Each, each-in, each-if, each-map}
+use Rattle.reach_rules.proofs.SpaceDecided.{ok-features}
 use Rattle.reach_gather.specs.Namings.{IsPlainNaming, AreCounted}
 use Rattle.reach_gather.specs.Joined.{ArePart}
 use Rattle.reach_gather.specs.Container.{pool_queue_naming, main_queue_naming, block_namings, ExpectsNone, PlainLeads, IsManagerPart, AreBlocksPart}
-use Rattle.reach_gather.proofs.Parts.{sound-names, of-parts}
+use Rattle.reach_gather.proofs.Parts.{of-parts, sound-next}
 use Rattle.reach_gather.proofs.Counted.{counts-self, counts-step}
 use Rattle.reach_gather.proofs.Joined.{part-join, part-step, part-listed, part-all}
+use Rattle.reach_gather.proofs.OfKinds.{standing-of}
 
 -- ---- what a plain naming leads to
 pub plain-leads : (image : List ℕ) (seen : Seen) (n : Naming) (e : Expected) (p : IsPlainNaming image seen n) → n.expected ≡ e → next image seen n ≡ names image seen n.how e (Whole p.object.object) p.object.bytes
 plain-leads image seen n e p s =
-    sound-names image seen n p.object (tested (site_of seen) n.expected n.oid p.object.bytes) p.found refl p.sound
-    ∙ ap (λ x. names image seen n.how x (Whole p.object.object) p.object.bytes) s
+    sound-next image seen n p.object p.found p.sound ∙ ap (λ x. names image seen n.how x (Whole p.object.object) p.object.bytes) s
 
 -- a part by what a plain naming leads to
 lead : (image : List ℕ) (seen : Seen) (n : Naming) (e : Expected) (xs rs : List Naming) (p : IsPlainNaming image seen n) → n.expected ≡ e →
@@ -52,13 +52,6 @@ plain-block image seen n p h =
     standing-by image (site_of seen) n.oid p.object by
 
 -- what a mapping finds is the object of its id
-of-block : (image : List ℕ) (site : Site) (oid : ℕ) (o : Option ℕ) (f : Found) → option_map (standing image site (OfId oid)) o ≡ Some f → f.object ≡ OfId oid
-of-block image site oid None f h = absurd (let z : ◌≡◌ {A = Option Found} None (Some f) = h in let q : ⊥ = cc in q)
-of-block image site oid (Some b) f h =
-    let z : ◌≡◌ {A = Option Found} (Some (standing image site (OfId oid) b)) (Some f) = h in
-    let s : standing image site (OfId oid) b ≡ f = cc in
-    ap (λ (x : Found). x.object) (sym s)
-
 of-bytes : (oid : ℕ) (bytes : List ℕ) (o : Option ℕ) (f : Found) → option_map (λ block. record { object = OfId oid; block = block; bytes = bytes }) o ≡ Some f → f.object ≡ OfId oid
 of-bytes oid bytes None f h = absurd (let z : ◌≡◌ {A = Option Found} None (Some f) = h in let q : ⊥ = cc in q)
 of-bytes oid bytes (Some b) f h =
@@ -67,7 +60,7 @@ of-bytes oid bytes (Some b) f h =
     ap (λ (x : Found). x.object) (sym s)
 
 of-place : (image : List ℕ) (site : Site) (oid : ℕ) (place : Place) (b : Bool) (f : Found) → (if b then mapped_node image site oid place else mapped site oid place) ≡ Some f → f.object ≡ OfId oid
-of-place image site oid place true f h = of-block image site oid (one_block site place) f h
+of-place image site oid place true f h = standing-of image site oid (one_block site place) f h
 of-place image site oid place false f h = of-bytes oid place.bytes _ f h
 
 of-id : (image : List ℕ) (site : Site) (e : Expected) (oid : ℕ) (o : Option Place) (f : Found) → option_and_then (λ (place : Place). if is_node e then mapped_node image site oid place else mapped site oid place) o ≡ Some f → f.object ≡ OfId oid
@@ -81,10 +74,6 @@ plain-id image seen n p h =
     of-id image (site_of seen) n.expected n.oid (eph seen n.oid) p.object by
 
 -- ---- which are plain
-tested-sound : (image : List ℕ) (seen : Seen) (e : Expected) (f : Found) (a : Answer) → is_ok a ≡ true → tested_features image seen e f a ≡ field_features image seen e f.block f.bytes
-tested-sound image seen e f (Ok bytes) s = refl
-tested-sound image seen e f (Err bad) s = absurd (let z : false ≡ true = s in let q : ⊥ = cc in q)
-
 pub plain-by : (image : List ℕ) (seen : Seen) (n : Naming) (f : Found) → resolved image seen n ≡ Some f → IsSoundFor seen n f → used_features (site_of seen) f.object ≡ [] → field_features image seen n.expected f.block f.bytes ≡ [] → IsPlainNaming image seen n
 unfolding features_through
 plain-by image seen n f found sound used fields =
@@ -95,7 +84,7 @@ plain-by image seen n f found sound used fields =
       sound = sound;
       plain = ap (λ o. through o (λ (g : Found). used_features (site_of seen) g.object ++ tested_features image seen n.expected g (tested (site_of seen) n.expected n.oid g.bytes))) found
           ∙ (ap (λ xs. xs ++ tested_features image seen n.expected f a) used
-          ∙ (tested-sound image seen n.expected f a sound ∙ fields));
+          ∙ (ok-features image seen n.expected f a sound ∙ fields));
     }
 
 pub block-stands : (image : List ℕ) (seen : Seen) (n : Naming) → n.how ≡ ByBlock → in_container (site_of seen).blocks n.oid ≡ Some n.oid → resolved image seen n ≡ Some (standing image (site_of seen) (InBlock n.oid) n.oid)

@@ -1,8 +1,8 @@
 -- The objects that are counted, and the owners whose ranges are given, are those that are gathered.
-use Rattle.std.proofs.Common.{◌≡◌, ℕ, Bool, true, false, List, [], ◌∷◌, map, Option, Some, None, inl, inr, refl, ap, sym, ◌∙◌, subst, if◌then◌else◌}
+use Rattle.std.proofs.Common.{◌≡◌, ℕ, Bool, true, false, List, [], map, Option, Some, None, inl, inr, refl, ap, sym, ◌∙◌, subst, if◌then◌else◌}
 use Rattle.std.specs.Prelude.{flat_map, option_map, option_and_then}
 use Rattle.apfs_model.specs.Blocks.{in_container}
-use Rattle.apfs_model.specs.Lists.{In, through}
+use Rattle.apfs_model.specs.Lists.{In}
 use Rattle.apfs_model.proofs.Searches.{in-left, in-right, in-append, in-map, from-map, in-flat_map, from-flat_map}
 use Rattle.obj_base.specs.declared.site.Site.{Site}
 use Rattle.nx_ring.specs.Checkpoint.{Seen, eph, site_of}
@@ -25,6 +25,7 @@ use Rattle.reach_gather.specs.Joined.{HaveSame}
 use Rattle.reach_gather.specs.Ranges.{joined_objects}
 use Rattle.reach_gather.specs.Gathered.{AreOnceOf}
 use Rattle.reach_gather.specs.Finished.{IsIdOf, IsObjectOf, AreRecordsWith}
+use Rattle.reach_gather.proofs.Tells.{object-found, found-object}
 
 -- what is found through a test, and in another form
 found-through : {X Y : Type 0} (g : X → Option Y) (y : Y) (o : Option X) → option_and_then g o ≡ Some y → (x : X) × ((o ≡ Some x) × (g x ≡ Some y))
@@ -67,18 +68,6 @@ unfolding resolved
 resolved-by image seen n f h = object-by image seen n.how n.expected n.oid f h
 
 -- ---- the objects that namings tell of
-one-through : (image : List ℕ) (seen : Seen) (n : Naming) (f : Found) → resolved image seen n ≡ Some f → In f.object (objects_through image seen n)
-one-through image seen n f e = subst (λ (o : Option Found). In f.object (through o (λ (g : Found). g.object ∷ []))) (sym e) (inl refl)
-
-through-one : (image : List ℕ) (seen : Seen) (n : Naming) (x : Object) → In x (objects_through image seen n) → (f : Found) × ((resolved image seen n ≡ Some f) × (x ≡ f.object))
-through-one image seen n x h =
-    let go : (o : Option Found) → resolved image seen n ≡ o → In x (through o (λ (f : Found). f.object ∷ [])) → (f : Found) × ((resolved image seen n ≡ Some f) × (x ≡ f.object)) =
-    λ o. elim o as (λ o. resolved image seen n ≡ o → In x (through o (λ (f : Found). f.object ∷ [])) → (f : Found) × ((resolved image seen n ≡ Some f) × (x ≡ f.object))) [
-      | None ↦ λ e k. absurd k
-      | Some f ↦ λ e k. elim k as (λ _. (f : Found) × ((resolved image seen n ≡ Some f) × (x ≡ f.object))) [ inl s ↦ (f, (e, s)) | inr z ↦ absurd z ]
-    ] in
-    go (resolved image seen n) refl h
-
 -- each naming resolves
 abbrev pub DoResolve : List ℕ → Seen → List Naming → Type 0
 DoResolve image seen ns = (n : Naming) → In n ns → (f : Found) × (resolved image seen n ≡ Some f)
@@ -88,7 +77,7 @@ id-told : (image : List ℕ) (seen : Seen) (ns : List Naming) → DoResolve imag
 id-told image seen ns found how oid i x is =
     let t = found i.naming i.one in
     let by : IsObjectBy how oid t.0.object = subst (λ k. IsObjectBy how k t.0.object) (sym i.oid_is) (subst (λ h. IsObjectBy h i.naming.oid t.0.object) i.how_is (resolved-by image seen i.naming t.0 t.1)) in
-    in-flat_map (objects_through image seen) i.naming x ns i.one (subst (λ (y : Object). In y (objects_through image seen i.naming)) (is t.0.object by) (one-through image seen i.naming t.0 t.1))
+    in-flat_map (objects_through image seen) i.naming x ns i.one (subst (λ (y : Object). In y (objects_through image seen i.naming)) (is t.0.object by) (found-object image seen i.naming t.0 t.1))
 
 told-object : (image : List ℕ) (seen : Seen) (ns : List Naming) (used records : List (ℕ × OmapRecord)) → DoResolve image seen ns → AreRecordsWith image seen ns used records → (x : Object) → IsObjectOf ns records x → In x (joined_objects image seen ns used)
 told-object image seen ns used records found recs Newest h = inl refl
@@ -101,7 +90,7 @@ told-object image seen ns used records found recs (OfRecord block r) h = elim (r
   | inr t ↦
       let to : ResolvesTo image seen t.0 (block, r) = t.1.1 in
       inr (in-left (OfRecord block r) (flat_map (objects_through image seen) ns) (map record_object used)
-      (in-flat_map (objects_through image seen) t.0 (OfRecord block r) ns t.1.0 (subst (λ (y : Object). In y (objects_through image seen t.0)) to.record_is (one-through image seen t.0 to.object to.found))))
+      (in-flat_map (objects_through image seen) t.0 (OfRecord block r) ns t.1.0 (subst (λ (y : Object). In y (objects_through image seen t.0)) to.record_is (found-object image seen t.0 to.object to.found))))
 ]
 
 -- by the look-up of its naming
@@ -118,7 +107,7 @@ object-told image seen ns used records outside recs x (inl e) = subst (IsObjectO
 object-told image seen ns used records outside recs x (inr h) = elim (in-append x (flat_map (objects_through image seen) ns) (map record_object used) h) as (λ _. IsObjectOf ns records x) [
   | inl k ↦
       let t = from-flat_map (objects_through image seen) x ns k in
-      let f = through-one image seen t.0 x t.1.1 in
+      let f = object-found image seen t.0 x t.1.1 in
       subst (IsObjectOf ns records) (sym f.1.1) (by-look image seen ns used records recs t.0 t.1.0 (outside t.0 t.1.0) f.0 f.1.0 t.0.how refl (resolved-by image seen t.0 f.0 f.1.0))
   | inr k ↦ let t = from-map record_object used x k in subst (IsObjectOf ns records) (sym t.1.1) (recs.of_views t.0 t.1.0)
 ]

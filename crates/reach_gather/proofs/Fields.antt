@@ -2,10 +2,11 @@
 use Rattle.std.proofs.Common.{◌≡◌, ℕ, Bool, true, false, List, [], ◌∷◌, ◌++◌, inl, inr, refl, ap, sym, ◌∙◌, subst}
 use Rattle.std.specs.Prelude.{◌==◌, if◌then◌else◌}
 use Rattle.apfs_model.specs.Lists.{In}
-use Rattle.apfs_model.proofs.BoolTests.{test_or, equal-from, from-equal}
+use Rattle.apfs_model.proofs.BoolTests.{from-equal}
 use Rattle.nx_ring.specs.Checkpoint.{Seen, site_of}
 use Rattle.omap_map.specs.Fields as maps
 use Rattle.omap_map.specs.Maps.{map_in}
+use Rattle.space_map.proofs.Loads.{unequal}
 use Rattle.reach_rules.specs.declared.naming.LookUp.{LookUp}
 use Rattle.reach_rules.specs.declared.naming.LookUp.TheVariants.{ByBlock}
 use Rattle.reach_rules.specs.declared.naming.Object.TheVariants.{InBlock}
@@ -41,11 +42,8 @@ unless-not false ns e = refl
 pub unless-none : (namer : Namer) (at : ℕ) (e : Expected) (how : LookUp) (oid : ℕ) → oid ≡ 0 → unless_zero namer at e how oid ≡ []
 unless-none namer at e how oid zero = unless-by (oid == 0) (naming namer at e how oid ∷ []) (from-equal oid 0 zero)
 
-pub not-zero : (oid : ℕ) → (oid ≡ 0 → ⊥) → (oid == 0) ≡ false
-not-zero oid not = elim (test_or (oid == 0)) as (λ _. (oid == 0) ≡ false) [ inl t ↦ absurd (not (equal-from oid 0 t)) | inr f ↦ f ]
-
 pub unless-some : (namer : Namer) (at : ℕ) (e : Expected) (how : LookUp) (oid : ℕ) → (oid ≡ 0 → ⊥) → unless_zero namer at e how oid ≡ naming namer at e how oid ∷ []
-unless-some namer at e how oid not = unless-not (oid == 0) (naming namer at e how oid ∷ []) (not-zero oid not)
+unless-some namer at e how oid not = unless-not (oid == 0) (naming namer at e how oid ∷ []) (unequal oid not)
 
 -- nothing is added where nothing is named
 pub adds-zero : (image : List ℕ) (seen : Seen) (namer : Namer) (at : ℕ) (e : Expected) (how : LookUp) (oid : ℕ) (a : Held) → oid ≡ 0 → Adds image seen (unless_zero namer at e how oid) [] a a

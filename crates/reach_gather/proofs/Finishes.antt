@@ -45,12 +45,9 @@ ids-list ns how old new e same = (
 )
 
 -- ---- objects
-apart-append : {X : Type 0} (xs ys : List X) → Apart xs → Apart ys → ((x : X) → In x xs → In x ys → ⊥) → Apart (xs ++ ys)
+pub apart-append : {X : Type 0} (xs ys : List X) → Apart xs → Apart ys → ((x : X) → In x xs → In x ys → ⊥) → Apart (xs ++ ys)
 apart-append [] ys p q none = q
-apart-append (x ∷ xs) ys p q none = (
-  (λ h. elim (in-append x xs ys h) as (λ _. ⊥) [ inl k ↦ p.0 k | inr k ↦ none x (inl refl) k ]),
-  apart-append xs ys p.1 q (λ y h k. none y (inr h) k),
-)
+apart-append (x ∷ xs) ys p q none = (λ h. elim (in-append x xs ys h) as (λ _. ⊥) [ inl k ↦ p.0 k | inr k ↦ none x (inl refl) k ], apart-append xs ys p.1 q (λ y h k. none y (inr h) k))
 
 pub apart_map : {X Y : Type 0} (f : X → Y) → ((a b : X) → f a ≡ f b → a ≡ b) → (xs : List X) → Apart xs → Apart (map f xs)
 apart_map f one [] h = tt

@@ -1,12 +1,12 @@
 -- No two of the blocks that tell of chunks have one naming, and how many they are.
-use Rattle.std.proofs.Common.{◌≡◌, ℕ, ◌+◌, Bool, true, false, List, [], ◌∷◌, ◌++◌, length, inl, inr, refl, ap, sym, ◌∙◌, arith, length-append, if◌then◌else◌}
+use Rattle.std.proofs.Common.{◌≡◌, ℕ, ◌+◌, Bool, true, false, ◌++◌, length, refl, ap, sym, ◌∙◌, arith, length-append, if◌then◌else◌}
 use Rattle.std.specs.Prelude.{◌*◌, ◌/◌, ◌%◌, ◌==◌, slice_index}
 use Rattle.std.specs.List.{range_with_len}
 use Rattle.std.proofs.lemmas.List.FromFn.{length-map-range_with_len}
 use Rattle.apfs_model.specs.Apart.{Apart}
 use Rattle.apfs_model.specs.Lists.{In}
 use Rattle.apfs_model.proofs.Finite.{apart-range}
-use Rattle.apfs_model.proofs.Searches.{in-append, from-map}
+use Rattle.apfs_model.proofs.Searches.{from-map}
 use Rattle.space_map.specs.Fields.{cabs_of, cibs_of, addresses_of}
 use Rattle.space_map.specs.Stops.{Known}
 use Rattle.reach_rules.specs.declared.naming.LookUp.TheVariants.{ByBlock}
@@ -17,11 +17,7 @@ use Rattle.reach_rules.specs.declared.naming.Expected.TheVariants.{AddressBlock,
 use Rattle.reach_rules.specs.declared.naming.Naming.{Naming}
 use Rattle.reach_rules.specs.Naming.{naming}
 use Rattle.reach_gather.specs.Infos.{room_of, known_cab, known_cib, known_cabs, known_cibs}
-use Rattle.reach_gather.proofs.Finishes.{apart_map}
-
-apart-both : {X : Type 0} (xs ys : List X) → Apart xs → Apart ys → ((x : X) → In x xs → In x ys → ⊥) → Apart (xs ++ ys)
-apart-both [] ys a b out = b
-apart-both (x ∷ xs) ys a b out = (λ h. elim (in-append x xs ys h) as (λ _. ⊥) [ inl k ↦ a.0 k | inr k ↦ out x (inl refl) k ], apart-both xs ys a.1 b (λ y k l. out y (inr k) l))
+use Rattle.reach_gather.proofs.Finishes.{apart_map, apart-append}
 
 -- each is expected by its index
 either-expects : (b : Bool) (m n : Naming) (e : Expected) → m.expected ≡ e → n.expected ≡ e → (if b then m else n).expected ≡ e
@@ -54,7 +50,7 @@ never-both oid space n h k =
 
 pub infos-apart : (oid : ℕ) (space : Known) → Apart (known_cabs oid space ++ known_cibs oid space)
 infos-apart oid space =
-    apart-both (known_cabs oid space) (known_cibs oid space)
+    apart-append (known_cabs oid space) (known_cibs oid space)
     (apart_map (known_cab oid space) (cab-one oid space) (range_with_len 0 (cabs_of space.manager)) (apart-range 0 (cabs_of space.manager)))
     (apart_map (known_cib oid space) (cib-one oid space) (range_with_len 0 (cibs_of space.manager)) (apart-range 0 (cibs_of space.manager)))
     (never-both oid space)

@@ -12,10 +12,9 @@ use Rattle.reach_rules.specs.declared.naming.Naming.{Naming}
 use Rattle.reach_rules.specs.Naming.{naming}
 use Rattle.reach_rules.specs.Next.{next, unless_zero}
 use Rattle.reach_rules.specs.Live.{Live, rooted, led}
-use Rattle.reach_rules.proofs.Lives.{live-left, live-right, live-append, live-unroll, live-roll}
+use Rattle.reach_rules.proofs.Lives.{live-left, live-right, live-append, live-unroll, live-roll, live-none}
 use Rattle.reach_gather.specs.Namings.{IsPlainNaming, AreCounted, AreNamingsOf}
 use Rattle.reach_gather.specs.Joined.{AreAllOf, ArePart, HaveSame, PartsJoin}
-use Rattle.reach_gather.proofs.Lists.{live-none}
 use Rattle.reach_gather.proofs.Counted.{counts-none, counts-left, counts-join, counts-step, counts-chain, counts-apart}
 
 pub part-none : (image : List ℕ) (seen : Seen) → ArePart image seen [] [] []

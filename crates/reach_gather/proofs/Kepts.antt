@@ -14,7 +14,6 @@ use Rattle.reach_gather.specs.Finished.{id_of}
 use Rattle.reach_gather.specs.Kept.{namings_in, owners_in, some_ranges}
 use Rattle.reach_gather.specs.declared.keeping.Noted.{Noted}
 use Rattle.reach_gather.specs.declared.keeping.Noted.TheVariants.{Named, Block, One, Those}
-use Rattle.reach_gather.proofs.Telling.{filter-more}
 
 -- what is made of a list grows by what is made of one more item
 grown : {X Y : Type 0} (f : List X → List Y) → ((xs ys : List X) → f (xs ++ ys) ≡ f xs ++ f ys) → (xs : List X) (i : ℕ) (d : X) (old mid new : List Y) → i < length xs
@@ -25,7 +24,7 @@ grown f both xs i d old mid new low m given =
     given ∙ (ap (λ ys. ys ++ f (x ∷ [])) m ∙ (append_assoc old (f (take i xs)) (f (x ∷ [])) ∙ ap (λ ys. old ++ ys) (sym (both (take i xs) (x ∷ [])) ∙ ap f (sym more))))
 
 pub ranges-more : (xs : List (ℕ × ℕ)) (i : ℕ) (d : ℕ × ℕ) (old mid new : List (ℕ × ℕ)) → i < length xs → mid ≡ old ++ some_ranges (take i xs) → new ≡ mid ++ some_ranges (get_or xs i d ∷ []) → new ≡ old ++ some_ranges (take (i + 1) xs)
-ranges-more = grown some_ranges (filter-more (λ (r : ℕ × ℕ). not (r.1 == 0)))
+ranges-more = grown some_ranges (filter-append (λ (r : ℕ × ℕ). not (r.1 == 0)))
 
 pub made-more : {Y : Type 0} (g : Noted → List Y) (xs : List Noted) (i : ℕ) (x : Noted) (old mid new : List Y) → i < length xs → get_or xs i x ≡ x → mid ≡ old ++ flat_map g (take i xs) → new ≡ mid ++ g x
     → new ≡ old ++ flat_map g (take (i + 1) xs)

@@ -4,9 +4,9 @@ use Rattle.std.specs.Prelude.{◌==◌, if◌then◌else◌}
 use Rattle.std.specs.List.{range_with_len, flat_map}
 use Rattle.std.proofs.lemmas.Bool.Decides.{nat_tests}
 use Rattle.std.proofs.lemmas.List.Concat.{flat_map-append}
+use Rattle.std.proofs.lemmas.List.{map-append}
 use Rattle.apfs_model.specs.Blocks.{block_of}
 use Rattle.apfs_model.specs.Lists.{through, value_of}
-use Rattle.obj_base.specs.declared.site.Site.{Site}
 use Rattle.obj_base.specs.declared.stop.Bad.{Bad}
 use Rattle.obj_base.specs.declared.stop.Bad.TheVariants as bads
 use Rattle.obj_base.specs.declared.stop.Stop.{Stop}
@@ -36,7 +36,7 @@ use Rattle.reach_rules.specs.Resolved.{Found, resolved, found_by, is_node}
 use Rattle.reach_rules.specs.Tested.{Answer, of_node, node_answer, node_tested, tested}
 use Rattle.reach_rules.specs.Next.{names, names_if, next, children_in, child_namings, node_namings}
 use Rattle.reach_rules.specs.Features.{used_features}
-use Rattle.reach_rules.proofs.Walks.{Matches, IsWalkOf}
+use Rattle.reach_rules.proofs.Walks.{Matches, IsWalkOf, AsPlace, tests, as-node}
 use Rattle.reach_gather.specs.Namings.{step_naming, tree_namings}
 use Rattle.reach_gather.proofs.Counted.{AreAllFrom, all-none, all-both, all-by}
 
@@ -48,27 +48,12 @@ pub record IsTreeOf {K : Type 0} (image : List ℕ) (seen : Seen) (kind : TreeKi
 
 -- a naming expects the node of a place
 abbrev pub Expects : TreeKind → NodeAt → Expected → Type 0
-Expects kind at e =
-    ((e ≡ TreeRoot kind) × (at ≡ root_place at.oid))
-    ⊎ ((level : ℕ) × ((pair : Pair) × ((e ≡ TreeNode kind level) × (at ≡ child_place level pair))))
+Expects = AsPlace
 
 pub record IsAt (kind : TreeKind) (how : LookUp) (at : NodeAt) (n : Naming) : Type 0 where
   pub how_is : n.how ≡ how
   pub oid_is : n.oid ≡ at.oid
   pub expects : Expects kind at n.expected
-
-tests : (site : Site) (kind : TreeKind) (at : NodeAt) (e : Expected) (oid : ℕ) (bytes : List ℕ) → oid ≡ at.oid → Expects kind at e → tested site e oid bytes ≡ node_tested kind at site bytes
-unfolding tested
-tests site kind at e oid bytes s (inl (p, q)) =
-    ap (λ x. tested site x oid bytes) p ∙ (ap (λ o. node_tested kind (root_place o) site bytes) s ∙ ap (λ a. node_tested kind a site bytes) (sym q))
-tests site kind at e oid bytes s (inr (level, (pair, (p, q)))) =
-    let place : ℕ → NodeAt = λ o. record { oid = o; root = false; level = Some level } in
-    ap (λ x. tested site x oid bytes) p
-    ∙ (ap (λ o. node_tested kind (place o) site bytes) (s ∙ ap (λ (a : NodeAt). a.oid) q) ∙ ap (λ a. node_tested kind a site bytes) (sym q))
-
-as-node : (kind : TreeKind) (at : NodeAt) (e : Expected) → Expects kind at e → is_node e ≡ true
-as-node kind at e (inl (p, q)) = ap is_node p
-as-node kind at e (inr (level, (pair, (p, q)))) = ap is_node p
 
 -- what a naming leads to, by what it resolves to and by the tests
 next-none : (image : List ℕ) (seen : Seen) (n : Naming) → resolved image seen n ≡ None → next image seen n ≡ []
@@ -179,10 +164,6 @@ next-child image seen kind how object shape named at n level tree is e h =
     ∙ node-kids (Whole (object at.oid)) kind how level (map child_in (pairs_of shape h.node)))))))
 
 -- ---- the steps
-map-append : {X Y : Type 0} (f : X → Y) (xs ys : List X) → map f (xs ++ ys) ≡ map f xs ++ map f ys
-map-append f [] ys = refl
-map-append f (x ∷ xs) ys = ap (λ zs. f x ∷ zs) (map-append f xs ys)
-
 -- a leaf has none
 no-steps : {K : Type 0} (tree : Tree K) (oid : ℕ) (at : ℕ → Pair) (is : List ℕ) → steps_in (flat_map (line_part tree zero oid) (map (λ k. (k, at k)) is)) ≡ []
 no-steps tree oid at [] = refl

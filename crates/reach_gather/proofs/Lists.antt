@@ -1,15 +1,11 @@
 -- What is live, as lists that are told.
 use Rattle.std.proofs.Common.{List, [], ◌∷◌, ◌++◌, inl, inr}
 use Rattle.apfs_model.specs.Lists.{In, Lists}
-use Rattle.reach_rules.specs.Live.{Live, rooted, led}
+use Rattle.reach_rules.specs.Live.{Live, rooted}
 use Rattle.apfs_model.proofs.Searches.{in-left, in-right, in-append}
-use Rattle.reach_rules.proofs.Lives.{live-left, live-right, live-append, live-unroll, live-roll}
+use Rattle.reach_rules.proofs.Lives.{live-left, live-right, live-append, live-unroll, live-roll, live-none}
 
 -- from nothing nothing is live
-pub live-none : {N : Type 0} (next : N → List N) (n : N) → Live [] next n → ⊥
-live-none next n (rooted _ h) = h
-live-none next n (led m _ live h) = live-none next m live
-
 pub lists-none : {N : Type 0} (next : N → List N) → Lists [] (Live [] next)
 lists-none next = ((λ x h. absurd h), (λ x live. live-none next x live))
 

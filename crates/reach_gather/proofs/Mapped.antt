@@ -30,6 +30,7 @@ use Rattle.reach_gather.specs.Parts.{ExpectsMap}
 use Rattle.reach_gather.specs.Walked.{IsWholeTree}
 use Rattle.reach_gather.specs.Volumes.Parts.{IsMapPart, HasWholeMetadata}
 use Rattle.vol_view.specs.Volumes.{Loaded}
+use Rattle.space_map.proofs.Loads.{unequal}
 use Rattle.reach_gather.proofs.Joined.{part-tree}
 use Rattle.reach_gather.proofs.OfKinds.{records-kind, snapshots-kind, metadata-kind}
 use Rattle.reach_gather.proofs.ViewParts.{outside-views}
@@ -39,8 +40,9 @@ use Rattle.reach_gather.specs.Held.{Held}
 use Rattle.reach_gather.specs.Adds.{Adds}
 use Rattle.reach_gather.specs.Mapped.{records_root, snapshots_root, past_namings, loaded_namings}
 use Rattle.reach_gather.specs.Steps.{block_steps, node_namings, block_owner}
-use Rattle.reach_gather.proofs.Branches.{nodes-own, root-owners, root-pool, tree-right, by-block}
-use Rattle.reach_gather.proofs.Fields.{unless-by, unless-not, not-zero, adds-zero, adds-some, map-adds}
+use Rattle.reach_gather.specs.ViewParts.{is_in_view}
+use Rattle.reach_gather.proofs.Branches.{nodes-own, root-owners, root-pool, tree-right}
+use Rattle.reach_gather.proofs.Fields.{unless-by, unless-not, adds-zero, adds-some, map-adds}
 use Rattle.reach_gather.proofs.Owning.{OwnBlocks, grewby-blocks}
 
 -- ---- the nodes of a tree that tells nothing
@@ -71,7 +73,7 @@ nodes-add image seen kind root steps a b how is are right none pool p q r =
     record {
       these = these;
       part = part-tree image seen root these are;
-      outside = (outside-views image seen).tree InBlock kind root steps (by-block root how);
+      outside = (outside-views image seen).tree InBlock kind root steps (ap is_in_view how);
       trees = tree-right image seen InBlock kind root steps is right;
       grew = grewby-blocks image seen these a b (nodes-all image seen kind root steps how is are none pool) (p ∙ ap (λ xs. a.namings ++ xs) same) (q ∙ ap (λ xs. a.owners ++ map block_owner xs) same) r;
     }
@@ -81,7 +83,7 @@ pub past-none : (block : ℕ) (contents : Contents) → contents.snap_tree ≡ 0
 past-none block contents e = unless-by (contents.snap_tree == 0) _ (from-equal contents.snap_tree 0 e)
 
 pub past-some : (block : ℕ) (contents : Contents) → (contents.snap_tree ≡ 0 → ⊥) → past_namings block contents ≡ node_namings MapSnapshots (snapshots_root block contents) contents.snap_steps
-past-some block contents not = unless-not (contents.snap_tree == 0) _ (not-zero contents.snap_tree not)
+past-some block contents not = unless-not (contents.snap_tree == 0) _ (unequal contents.snap_tree not)
 
 -- ---- the trees of a map that was loaded
 records-steps : (image : List ℕ) (seen : Seen) (block : ℕ) (contents : Contents) → contents ≡ contents_of image (site_of seen) block → contents.steps ≡ tree_steps image seen MapRecords contents.tree
@@ -111,7 +113,7 @@ snapshots-add : (image : List ℕ) (seen : Seen) (n : Naming) (contents : Conten
     → Adds image seen (snapshots_root n.oid contents ∷ []) [] a b
 snapshots-add image seen n contents a b part same not p q r =
     let root : Naming = snapshots_root n.oid contents in
-    let some : (contents.snap_tree == 0) ≡ false = not-zero contents.snap_tree not in
+    let some : (contents.snap_tree == 0) ≡ false = unequal contents.snap_tree not in
     let nodes : past_namings n.oid contents ≡ node_namings MapSnapshots root contents.snap_steps = past-some n.oid contents not in
     let whole : IsWholeTree image seen MapSnapshots contents.snap_tree =
     subst (IsWholeTree image seen MapSnapshots) (ap (λ (c : Contents). c.snap_tree) (sym same)) (part.snapshots (ap (λ (c : Contents). c.snap_tree == 0) (sym same) ∙ some)) in
@@ -142,7 +144,7 @@ pub metadata-add : (image : List ℕ) (seen : Seen) (volume : Loaded) (root : Na
     → b.namings ≡ a.namings ++ node_namings SnapMetadata root steps → b.owners ≡ a.owners ++ map block_owner (node_namings SnapMetadata root steps) → b.pool_owners ≡ a.pool_owners
     → Adds image seen (root ∷ []) [] a b
 metadata-add image seen volume root steps a b whole how is at not taken p q r =
-    let some : (volume.snaps_root == 0) ≡ false = not-zero volume.snaps_root not in
+    let some : (volume.snaps_root == 0) ≡ false = unequal volume.snaps_root not in
     nodes-add image seen SnapMetadata root steps a b how is
     (whole-namings (metadata-kind image seen) volume.snaps_root steps (whole.whole some) (taken ∙ whole.steps some) root is how at)
     (subst (IsRightTree image seen SnapMetadata) (sym at) (whole.whole some).right) refl refl p q r

@@ -34,7 +34,7 @@ physical-tree image seen kind shape walk = record {
 }
 
 -- what is found by an ephemeral id is the object of that id
-standing-of : (image : List ℕ) (site : Site) (oid : ℕ) (o : Option ℕ) (f : Found) → option_map (standing image site (OfId oid)) o ≡ Some f → f.object ≡ OfId oid
+pub standing-of : (image : List ℕ) (site : Site) (oid : ℕ) (o : Option ℕ) (f : Found) → option_map (standing image site (OfId oid)) o ≡ Some f → f.object ≡ OfId oid
 standing-of image site oid None f h = absurd (let z : ◌≡◌ {A = Option Found} None (Some f) = h in let q : ⊥ = cc in q)
 standing-of image site oid (Some b) f h =
     let z : ◌≡◌ {A = Option Found} (Some (standing image site (OfId oid) b)) (Some f) = h in

@@ -68,13 +68,17 @@ cab-lives image seen n i s =
     (lists-flat (next image seen) (λ m. m ∷ []) (next image seen n) (λ m h. let t = cab-infos image seen n m i s h in info-alone image seen m t.0 t.1)))
 
 -- ---- object maps
-pub sound-names : (image : List ℕ) (seen : Seen) (n : Naming) (f : Found) (a : Answer) → resolved image seen n ≡ Some f → tested (site_of seen) n.expected n.oid f.bytes ≡ a → is_ok a ≡ true → next image seen n ≡ names image seen n.how n.expected (Whole f.object) f.bytes
+sound-names : (image : List ℕ) (seen : Seen) (n : Naming) (f : Found) (a : Answer) → resolved image seen n ≡ Some f → tested (site_of seen) n.expected n.oid f.bytes ≡ a → is_ok a ≡ true → next image seen n ≡ names image seen n.how n.expected (Whole f.object) f.bytes
 sound-names image seen n f (Ok bytes) e t s = next-some image seen n f (Ok bytes) e t
 sound-names image seen n f (Err bad) e t s = absurd (let z : false ≡ true = s in let q : ⊥ = cc in q)
 
+-- what the naming of a sound object leads to
+pub sound-next : (image : List ℕ) (seen : Seen) (n : Naming) (f : Found) → resolved image seen n ≡ Some f → IsSoundFor seen n f → next image seen n ≡ names image seen n.how n.expected (Whole f.object) f.bytes
+sound-next image seen n f found sound = sound-names image seen n f (tested (site_of seen) n.expected n.oid f.bytes) found refl sound
+
 pub map-names : (image : List ℕ) (seen : Seen) (n : Naming) (f : Found) → ExpectsMap n.expected → resolved image seen n ≡ Some f → IsSoundFor seen n f → next image seen n ≡ map_namings (Whole f.object) f.bytes
-map-names image seen n f (inl e) found sound = sound-names image seen n f (tested (site_of seen) n.expected n.oid f.bytes) found refl sound ∙ ap (λ x. names image seen n.how x (Whole f.object) f.bytes) e
-map-names image seen n f (inr e) found sound = sound-names image seen n f (tested (site_of seen) n.expected n.oid f.bytes) found refl sound ∙ ap (λ x. names image seen n.how x (Whole f.object) f.bytes) e
+map-names image seen n f (inl e) found sound = sound-next image seen n f found sound ∙ ap (λ x. names image seen n.how x (Whole f.object) f.bytes) e
+map-names image seen n f (inr e) found sound = sound-next image seen n f found sound ∙ ap (λ x. names image seen n.how x (Whole f.object) f.bytes) e
 
 abbrev IsSnapshotsRoot : Naming → Type 0
 IsSnapshotsRoot n = (n.expected ≡ TreeRoot MapSnapshots) × (n.how ≡ ByBlock)

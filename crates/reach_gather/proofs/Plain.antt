@@ -2,7 +2,7 @@
 use Rattle.std.proofs.Common.{◌≡◌, ℕ, zero, suc, ◌+◌, ◌<◌, true, List, [], ◌∷◌, ◌++◌, map, Option, Ok, is_ok, inl, inr, refl, ap, sym, ◌∙◌, subst, arith}
 use Rattle.std.specs.List.{range_with_len}
 use Rattle.apfs_model.specs.Lists.{In, through}
-use Rattle.apfs_model.proofs.BoolTests.{all-in, clash}
+use Rattle.apfs_model.proofs.BoolTests.{all-in, clash, from-range}
 use Rattle.apfs_model.proofs.Searches.{from-map}
 use Rattle.bt_node.specs.Shape.{Shape}
 use Rattle.bt_node.specs.Node.{level_of, count_of}
@@ -46,11 +46,6 @@ from-children namer kind how level i (pair ∷ pairs) m (inr h) =
 from-kids : (namer : Namer) (kind : TreeKind) (how : LookUp) (level : ℕ) (pairs : List Pair) (m : Naming) → In m (kids_of namer kind how level 0 (map child_in pairs)) → (below : ℕ) × ((level ≡ suc below) × IsKid kind how below pairs m)
 from-kids namer kind how zero pairs m h = absurd h
 from-kids namer kind how (suc level) pairs m h = (level, (refl, from-children namer kind how level 0 pairs m h))
-
-from-range : (a n i : ℕ) → In i (range_with_len a n) → i < a + n
-from-range a zero i h = absurd h
-from-range a (suc n) i (inl e) = omega (arith, e)
-from-range a (suc n) i (inr h) = let low : i < (a + 1) + n = from-range (a + 1) n i h in omega (arith, low)
 
 -- a place that is met, for a naming
 record IsMetAt {K : Type 0} (tree : Tree K) (root : ℕ) (kind : TreeKind) (how : LookUp) (m : Naming) : Type 0 where

@@ -4,6 +4,7 @@ use Rattle.std.proofs.lemmas.List.{take_more, append-nil, append_assoc}
 use Rattle.std.specs.Prelude.{if◌then◌else◌}
 use Rattle.apfs_model.specs.Lists.{In}
 use Rattle.apfs_model.proofs.Searches.{in-map}
+use Rattle.apfs_model.proofs.Greatest.{some-value}
 use Rattle.nx_block.specs.Super.{omap_oid_of}
 use Rattle.nx_ring.specs.Checkpoint.{Seen, site_of}
 use Rattle.obj_base.specs.declared.site.Site.{Site}
@@ -49,14 +50,8 @@ record-found image seen volume records oid x found part all same at e =
 pub never-lost : (found : Option OmapRecord) (r : OmapRecord) → found ≡ None → found ≡ Some r → ⊥
 never-lost found r p q = let z : None ≡ Some r = sym p ∙ q in let k : ⊥ = cc in k
 
-some-one : (a b : OmapRecord) → Some a ≡ Some b → a ≡ b
-some-one a b e = cc
-
-pub found-one : (found : Option OmapRecord) (a b : OmapRecord) → found ≡ Some a → found ≡ Some b → a ≡ b
-found-one found a b p q = some-one a b (sym p ∙ q)
-
-some-thing : (a b : Found) → Some a ≡ Some b → a ≡ b
-some-thing a b e = cc
+pub found-one : {X : Type 0} (found : Option X) (a b : X) → found ≡ Some a → found ≡ Some b → a ≡ b
+found-one found a b p q = some-value a b (sym p ∙ q)
 
 -- who names what the volume's superblock does
 pub namer-is : (seen : Seen) (map : ℕ) (found r : OmapRecord) → map ≡ omap_oid_of seen.nx → found ≡ r → Whole (OfRecord map found) ≡ volume_namer seen r
@@ -69,13 +64,13 @@ owner-is seen map found r m f = λ i. owner (Recorded (m i) (f i)) (f i).paddr 1
 slot-owners : (image : List ℕ) (seen : Seen) (volume : Loaded) (part : IsVolumePart image seen volume.head volume) → owners_through image seen (head_naming volume.head) ≡ owner (Recorded (omap_oid_of seen.nx) part.mapping) part.mapping.paddr 1 ∷ []
 slot-owners image seen volume part =
     let n : Naming = head_naming volume.head in
-    let same : part.plain.object ≡ standing image (site_of seen) (OfRecord (omap_oid_of seen.nx) part.mapping) volume.head.block = some-thing part.plain.object (standing image (site_of seen) (OfRecord (omap_oid_of seen.nx) part.mapping) volume.head.block) (sym part.plain.found ∙ part.found) in
+    let same : part.plain.object ≡ standing image (site_of seen) (OfRecord (omap_oid_of seen.nx) part.mapping) volume.head.block = some-value part.plain.object (standing image (site_of seen) (OfRecord (omap_oid_of seen.nx) part.mapping) volume.head.block) (sym part.plain.found ∙ part.found) in
     own-plain image seen n part.plain ∙ ap (λ (f : Found). object_owners n f.object ++ told_owners image seen n n.expected f.bytes) same
 
 slot-pool : (image : List ℕ) (seen : Seen) (volume : Loaded) (part : IsVolumePart image seen volume.head volume) → pool_owners_through image seen (head_naming volume.head) ≡ []
 slot-pool image seen volume part =
     let n : Naming = head_naming volume.head in
-    let same : part.plain.object ≡ standing image (site_of seen) (OfRecord (omap_oid_of seen.nx) part.mapping) volume.head.block = some-thing part.plain.object (standing image (site_of seen) (OfRecord (omap_oid_of seen.nx) part.mapping) volume.head.block) (sym part.plain.found ∙ part.found) in
+    let same : part.plain.object ≡ standing image (site_of seen) (OfRecord (omap_oid_of seen.nx) part.mapping) volume.head.block = some-value part.plain.object (standing image (site_of seen) (OfRecord (omap_oid_of seen.nx) part.mapping) volume.head.block) (sym part.plain.found ∙ part.found) in
     pool-plain image seen n part.plain ∙ ap (λ (f : Found). pool_object_owners n f.object ++ pool_told_owners image seen n n.expected f.bytes) same
 
 slot-root : (image : List ℕ) (seen : Seen) (volume : Loaded) → IsRightRoot image seen (head_naming volume.head)

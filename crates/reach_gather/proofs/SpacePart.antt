@@ -1,5 +1,5 @@
 -- In a right space all that the space manager names is plain.
-use Rattle.std.proofs.Common.{◌≡◌, ℕ, ◌+◌, ◌*◌, ◌/◌, ◌%◌, ◌<◌, Bool, true, false, ◌&&◌, ◌==◌, nat_lt, List, [], ◌∷◌, ◌++◌, map, Some, None, Result, Ok, Err, is_ok, ◌⊎◌, inl, inr, refl, ap, sym, ◌∙◌, subst, arith, if◌then◌else◌}
+use Rattle.std.proofs.Common.{◌≡◌, ℕ, ◌+◌, ◌*◌, ◌/◌, ◌%◌, ◌<◌, Bool, true, false, ◌==◌, List, [], ◌∷◌, ◌++◌, map, Some, is_ok, ◌⊎◌, inl, inr, refl, ap, sym, ◌∙◌, subst, arith, if◌then◌else◌}
 use Rattle.std.specs.Prelude.{is_some}
 use Rattle.std.specs.List.{range_with_len}
 use Rattle.apfs_model.specs.Blocks.{block_of, in_container}
@@ -7,14 +7,11 @@ use Rattle.apfs_model.specs.Lists.{In, through}
 use Rattle.apfs_model.specs.Object.{cab_kind, cib_kind}
 use Rattle.apfs_model.proofs.BoolTests.{equal-from, left-true, right-true, from-range}
 use Rattle.apfs_model.proofs.Searches.{from-map, from-filter, filter-test}
-use Rattle.obj_base.specs.declared.header.Header.{Header}
-use Rattle.obj_base.specs.declared.header.HeadFault.{HeadFault}
-use Rattle.obj_base.specs.declared.stop.Bad.{Bad}
-use Rattle.obj_base.specs.declared.stop.Bad.TheVariants.{Found as Fails, Unsupported}
+use Rattle.apfs_model.proofs.Inside.{inside-itself}
 use Rattle.nx_ring.specs.Checkpoint.{Seen, site_of}
 use Rattle.space_map.specs.Fields.{cabs_of, cibs_of, cab_cibs_of, addresses_of}
 use Rattle.space_map.specs.Geometry.{has_address, has_cib_place}
-use Rattle.space_map.specs.Blocks.{address_at, cab_address_at, cab_block_for, cib_block, is_info, info_test}
+use Rattle.space_map.specs.Blocks.{address_at, cab_address_at, cib_block, is_info, info_test}
 use Rattle.space_map.specs.Stops.{HasManager, IsRightSpace}
 use Rattle.reach_rules.specs.declared.naming.LookUp.TheVariants.{ByBlock}
 use Rattle.reach_rules.specs.declared.naming.Object.TheVariants.{InBlock}
@@ -25,35 +22,21 @@ use Rattle.reach_rules.specs.declared.naming.Expected.TheVariants.{AddressBlock,
 use Rattle.reach_rules.specs.declared.naming.Naming.{Naming}
 use Rattle.reach_rules.specs.Naming.{naming}
 use Rattle.reach_rules.specs.Resolved.{Found, resolved, standing}
-use Rattle.reach_rules.specs.Tested.{of_header, tested}
+use Rattle.reach_rules.specs.Tested.{tested}
 use Rattle.reach_rules.specs.Next.{names, next, address_naming, addresses_in, address_namings, is_cib_of, cibs_in, cib_naming, cab_namings}
 use Rattle.reach_rules.specs.Features.{placed_in}
 use Rattle.reach_rules.proofs.Looks.{standing-by}
 use Rattle.reach_rules.proofs.Nexts.{from-next}
-use Rattle.reach_rules.proofs.SpaceLifted.{there, manager-sound}
+use Rattle.reach_rules.proofs.SpaceLifted.{there, manager-sound, ok-header, own-block, other-block}
 use Rattle.reach_gather.specs.Namings.{IsPlainNaming}
 use Rattle.reach_gather.specs.Joined.{ArePart}
 use Rattle.reach_gather.specs.Container.{pool_queue_naming, main_queue_naming, manager_naming}
 use Rattle.reach_gather.specs.Space.{manager_namer, blocks_namings, IsSpacePart}
 use Rattle.reach_gather.proofs.Container.{plain-by, block-stands, manager-part, blocks-part}
 
--- a header's answer, said of a named object
-ok-header : (bytes : List ℕ) (r : Result Header (Bad HeadFault)) → is_ok r ≡ true → is_ok (of_header bytes r) ≡ true
-ok-header bytes (Ok h) e = refl
-ok-header bytes (Err (Fails why)) e = e
-ok-header bytes (Err (Unsupported feature)) e = e
-
-inside-some : (blocks b : ℕ) → is_some (in_container blocks b) ≡ true → in_container blocks b ≡ Some b
-inside-some blocks b e =
-    let go : (t : Bool) → is_some (if t then Some b else None) ≡ true → (if t then Some b else None) ≡ Some b = λ t. elim t as (λ t. is_some (if t then Some b else None) ≡ true → (if t then Some b else None) ≡ Some b) [
-      | true ↦ λ _. refl
-      | false ↦ λ s. absurd (let z : false ≡ true = s in let q : ⊥ = cc in q)
-    ] in
-    go (nat_lt 0 b && nat_lt b blocks) e
-
 info-inside : (image : List ℕ) (seen : Seen) (kind oid : ℕ) → is_info image (site_of seen) kind oid ≡ true → in_container (site_of seen).blocks oid ≡ Some oid
 unfolding is_info
-info-inside image seen kind oid info = inside-some (site_of seen).blocks oid (left-true (is_some (in_container (site_of seen).blocks oid)) _ info)
+info-inside image seen kind oid info = inside-itself (site_of seen).blocks oid (left-true (is_some (in_container (site_of seen).blocks oid)) _ info)
 
 info-ok : (image : List ℕ) (seen : Seen) (kind oid : ℕ) → is_info image (site_of seen) kind oid ≡ true → is_ok (info_test image (site_of seen) kind oid) ≡ true
 unfolding is_info
@@ -76,20 +59,11 @@ cib-plain image seen namer at i oid info =
     plain-by image seen n f (block-stands image seen n refl (info-inside image seen cib_kind oid info))
     (ok-header f.bytes (info_test image (site_of seen) cib_kind oid) (info-ok image seen cib_kind oid info)) refl refl
 
--- where the addresses of chunk-info blocks are
-pub own-block : (B : ℕ) (image manager : List ℕ) (i : ℕ) → (cabs_of manager == 0) ≡ true → cib_block B image manager i ≡ address_at manager i
-unfolding cib_block
-own-block B image manager i e = ap (λ (b : Bool). if b then address_at manager i else cab_address_at (block_of B image (cab_block_for manager i)) (i % cab_cibs_of manager)) e
-
-pub other-block : (B : ℕ) (image manager : List ℕ) (i : ℕ) → (cabs_of manager == 0) ≡ false → cib_block B image manager i ≡ cab_address_at (block_of B image (cab_block_for manager i)) (i % cab_cibs_of manager)
-unfolding cib_block
-other-block B image manager i e = ap (λ (b : Bool). if b then address_at manager i else cab_address_at (block_of B image (cab_block_for manager i)) (i % cab_cibs_of manager)) e
-
 -- a naming of what the manager's addresses name: an address block, or an info block where there are none of those
-record IsAt (manager : List ℕ) (expected : ℕ → Expected) (count : ℕ) (namer : Namer) (n : Naming) : Type 0 where
-  index : ℕ
-  low : index < count
-  is : n ≡ address_naming expected namer manager index
+pub record IsAt (manager : List ℕ) (expected : ℕ → Expected) (count : ℕ) (namer : Namer) (n : Naming) : Type 0 where
+  pub index : ℕ
+  pub low : index < count
+  pub is : n ≡ address_naming expected namer manager index
 
 at-index : (manager : List ℕ) (expected : ℕ → Expected) (count : ℕ) (namer : Namer) (n : Naming) → In n (map (address_naming expected namer manager) (addresses_in manager count)) → IsAt manager expected count namer n
 at-index manager expected count namer n h =
@@ -98,13 +72,13 @@ at-index manager expected count namer n h =
     let l : i < 0 + count = from-range 0 count i (from-filter (has_address manager) i (range_with_len 0 count) t.1.0) in
     record { index = i; low = omega (arith, l); is = t.1.1 }
 
-abbrev IsInfoAt : List ℕ → Namer → Naming → Type 0
+abbrev pub IsInfoAt : List ℕ → Namer → Naming → Type 0
 IsInfoAt manager namer n = ((cabs_of manager == 0) ≡ true) × IsAt manager InfoBlock (cibs_of manager) namer n
 
-abbrev IsAddressAt : List ℕ → Namer → Naming → Type 0
+abbrev pub IsAddressAt : List ℕ → Namer → Naming → Type 0
 IsAddressAt manager namer n = ((cabs_of manager == 0) ≡ false) × IsAt manager AddressBlock (cabs_of manager) namer n
 
-from-addresses : (manager : List ℕ) (namer : Namer) (n : Naming) → In n (address_namings namer manager) → IsInfoAt manager namer n ⊎ IsAddressAt manager namer n
+pub from-addresses : (manager : List ℕ) (namer : Namer) (n : Naming) → In n (address_namings namer manager) → IsInfoAt manager namer n ⊎ IsAddressAt manager namer n
 from-addresses manager namer n h =
     let infos : List Naming = map (address_naming InfoBlock namer manager) (addresses_in manager (cibs_of manager)) in
     let cabs : List Naming = map (address_naming AddressBlock namer manager) (addresses_in manager (cabs_of manager)) in

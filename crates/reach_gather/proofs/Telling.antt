@@ -1,8 +1,8 @@
 -- The owners that are told range by range.
 use Rattle.std.proofs.Common.{◌≡◌, ℕ, suc, ◌+◌, ◌<◌, Bool, true, false, cond, List, [], ◌∷◌, ◌++◌, length, take, get_or, refl, ap, sym, ◌∙◌, arith}
 use Rattle.std.specs.Prelude.{not, ◌==◌, if◌then◌else◌}
-use Rattle.std.specs.List.{filter}
 use Rattle.std.proofs.lemmas.List.{take_more, append_assoc, length-take-le}
+use Rattle.std.proofs.lemmas.List.Elements.{filter-append}
 use Rattle.reach_rules.specs.declared.naming.Naming.{Naming}
 use Rattle.reach_rules.specs.declared.owner.Who.TheVariants.{Told}
 use Rattle.reach_rules.specs.declared.owner.Owner.{Owner}
@@ -13,15 +13,7 @@ told-more : (n : Naming) (k : ℕ) (xs : List (ℕ × ℕ)) (x : ℕ × ℕ) →
 told-more n k [] x = ap (λ i. owner_of (Told n i) x ∷ []) (let e : k ≡ k + 0 = omega arith in e)
 told-more n k (y ∷ ys) x = ap (λ os. owner_of (Told n k) y ∷ os) (told-more n (suc k) ys x ∙ ap (λ i. told_from n (suc k) ys ++ owner_of (Told n i) x ∷ []) (let e : suc k + length ys ≡ k + suc (length ys) = omega arith in e))
 
-pub filter-more : {X : Type 0} (p : X → Bool) (xs ys : List X) → filter p (xs ++ ys) ≡ filter p xs ++ filter p ys
-filter-more p [] ys = refl
-filter-more p (x ∷ xs) ys = filter-if (p x) x (filter p (xs ++ ys)) (filter p xs) (filter p ys) (filter-more p xs ys)
-  where
-    filter-if : {X : Type 0} (b : Bool) (x : X) (all left right : List X) → all ≡ left ++ right → cond b (x ∷ all) all ≡ cond b (x ∷ left) left ++ right
-    filter-if true x all left right e = ap (λ ys. x ∷ ys) e
-    filter-if false x all left right e = e
-
-one-some : (b : Bool) (o : Owner) → cond (not b) (o ∷ []) [] ≡ (if b then [] else o ∷ [])
+pub one-some : (b : Bool) (o : Owner) → cond (not b) (o ∷ []) [] ≡ (if b then [] else o ∷ [])
 one-some true o = refl
 one-some false o = refl
 
@@ -41,5 +33,5 @@ tell-more n xs i d old mid new low m given =
     ∙ (ap (λ ys. ys ++ (if x.1 == 0 then [] else owner (Told n i) x.0 x.1 ∷ [])) m
     ∙ (append_assoc old so_far _
     ∙ (ap (λ ys. old ++ (so_far ++ ys)) (sym (one-some (x.1 == 0) (owner (Told n i) x.0 x.1)))
-    ∙ (ap (λ ys. old ++ ys) (sym (filter-more p (told_from n 0 (take i xs)) (owner_of (Told n i) x ∷ [])))
+    ∙ (ap (λ ys. old ++ ys) (sym (filter-append p (told_from n 0 (take i xs)) (owner_of (Told n i) x ∷ [])))
     ∙ ap (λ ys. old ++ some_owners ys) (sym told)))))

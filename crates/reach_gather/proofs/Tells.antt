@@ -64,7 +64,7 @@ pool-owners-of image seen xs l = (
 )
 
 -- ---- objects
-object-found : (image : List ℕ) (seen : Seen) (n : Naming) (x : Object) → In x (objects_through image seen n) → (f : Found) × ((resolved image seen n ≡ Some f) × (x ≡ f.object))
+pub object-found : (image : List ℕ) (seen : Seen) (n : Naming) (x : Object) → In x (objects_through image seen n) → (f : Found) × ((resolved image seen n ≡ Some f) × (x ≡ f.object))
 object-found image seen n x h =
     let go : (o : Option Found) → resolved image seen n ≡ o → In x (through o (λ (f : Found). f.object ∷ [])) → (f : Found) × ((resolved image seen n ≡ Some f) × (x ≡ f.object)) =
     λ o. elim o as (λ o. resolved image seen n ≡ o → In x (through o (λ (f : Found). f.object ∷ [])) → (f : Found) × ((resolved image seen n ≡ Some f) × (x ≡ f.object))) [
@@ -73,7 +73,7 @@ object-found image seen n x h =
     ] in
     go (resolved image seen n) refl h
 
-found-object : (image : List ℕ) (seen : Seen) (n : Naming) (f : Found) → resolved image seen n ≡ Some f → In f.object (objects_through image seen n)
+pub found-object : (image : List ℕ) (seen : Seen) (n : Naming) (f : Found) → resolved image seen n ≡ Some f → In f.object (objects_through image seen n)
 found-object image seen n f e = subst (λ o. In f.object (through o (λ (g : Found). g.object ∷ []))) (sym e) (inl refl)
 
 object-named : (image : List ℕ) (seen : Seen) (x : Object) → IsThrough image seen (objects_through image seen) (roots seen.nx) x → IsNamed image seen x

@@ -1,5 +1,5 @@
 -- Namings and owners that tie by their orders are one, and so are look-ups that are told as equal.
-use Rattle.std.proofs.Common.{◌≡◌, ℕ, Bool, true, false, List, [], ◌∷◌, inl, inr, refl, ap, sym, ◌∙◌}
+use Rattle.std.proofs.Common.{◌≡◌, Bool, true, false, List, [], ◌∷◌, inl, inr, refl, ap, sym, ◌∙◌}
 use Rattle.std.specs.declared.cmp.Ordering.{Ordering}
 use Rattle.std.specs.declared.cmp.Ordering.TheVariants.{Less, Equal, Greater}
 use Rattle.std.specs.Ordering.{nat_cmp, bool_cmp, ordering_then, ordering_reverse, is_eq}
@@ -41,6 +41,7 @@ use Rattle.reach_rules.specs.contracts.naming.NamingOrd.TheImpl.Laws as naming_l
 use Rattle.reach_rules.specs.contracts.owner.WhoOrd.TheImpl as of_who
 use Rattle.reach_rules.specs.contracts.owner.OwnerOrd.TheImpl as of_owner
 use Rattle.reach_rules.specs.contracts.naming.NamingPartialEq.TheImpl as same_naming
+use Rattle.reach_rules.proofs.Equal.{record-is, view-is, naming-is, owner-is}
 
 -- ---- the orders
 abbrev record_rank : OmapRecord → OmapRecord → Ordering
@@ -89,13 +90,6 @@ flag-tie false true e = absurd (cc)
 flag-tie false false e = refl
 
 -- ---- structs of numbers
-record_by : ℕ → ℕ → ℕ → ℕ → ℕ → OmapRecord
-record_by oid xid flags size paddr = record { oid = oid; xid = xid; flags = flags; size = size; paddr = paddr }
-
-record-is : (a b : OmapRecord) → a.oid ≡ b.oid → a.xid ≡ b.xid → a.flags ≡ b.flags → a.size ≡ b.size → a.paddr ≡ b.paddr → a ≡ b
-unfolding record_by
-record-is a b p q r s t = let k : record_by a.oid a.xid a.flags a.size a.paddr ≡ record_by b.oid b.xid b.flags b.size b.paddr = cc in k
-
 pub record-one : CmpEqualImpliesEq record_rank
 record-one a b e =
     let t1 = both-tie (nat_cmp a.oid b.oid) (ordering_then (nat_cmp a.xid b.xid) (ordering_then (nat_cmp a.flags b.flags) (ordering_then (nat_cmp a.size b.size) (nat_cmp a.paddr b.paddr)))) e in
@@ -103,13 +97,6 @@ record-one a b e =
     let t3 = both-tie (nat_cmp a.flags b.flags) (ordering_then (nat_cmp a.size b.size) (nat_cmp a.paddr b.paddr)) t2.1 in
     let t4 = both-tie (nat_cmp a.size b.size) (nat_cmp a.paddr b.paddr) t3.1 in
     record-is a b (exact_unsigned a.oid b.oid t1.0) (exact_unsigned a.xid b.xid t2.0) (exact_unsigned a.flags b.flags t3.0) (exact_unsigned a.size b.size t4.0) (exact_unsigned a.paddr b.paddr t4.1)
-
-view_by : ℕ → ℕ → ℕ → ℕ → Bool → ViewAt
-view_by slot place xid map hashed = record { slot = slot; place = place; xid = xid; map = map; hashed = hashed }
-
-view-is : (a b : ViewAt) → a.slot ≡ b.slot → a.place ≡ b.place → a.xid ≡ b.xid → a.map ≡ b.map → a.hashed ≡ b.hashed → a ≡ b
-unfolding view_by
-view-is a b p q r s t = let k : view_by a.slot a.place a.xid a.map a.hashed ≡ view_by b.slot b.place b.xid b.map b.hashed = cc in k
 
 view-one : CmpEqualImpliesEq view_rank
 view-one a b e =
@@ -188,13 +175,6 @@ expected-one x y e =
     let ranks : Each Ordering expecteds.the_type.parts = (point, (point, (point, (point, (point, ((λ a b. nat_cmp a.0 b.0), (point, (point, ((λ a b. view_rank a.0 b.0), ((λ a b. nat_cmp a.0 b.0), ((λ a b. nat_cmp a.0 b.0), ((λ a b. kind_rank a.0 b.0), ((λ a b. ordering_then (kind_rank a.0 b.0) (nat_cmp a.1.0 b.1.0)), tt))))))))))))) in
     expecteds.the_type.to_one x y (ap (intoss expecteds.the_type.parts) (choices-one expecteds.the_type.parts ranks (at-point, (at-point, (at-point, (at-point, (at-point, (field-one nat_cmp exact_unsigned, (at-point, (at-point, (field-one view_rank view-one, (field-one nat_cmp exact_unsigned, (field-one nat_cmp exact_unsigned, (field-one kind_rank kind-one, (fields-one kind_rank nat_cmp kind-one exact_unsigned, tt))))))))))))) (expecteds.as_values x) (expecteds.as_values y) e))
 
-naming_by : Namer → ℕ → Expected → LookUp → ℕ → Naming
-naming_by namer at expected how oid = record { namer = namer; at = at; expected = expected; how = how; oid = oid }
-
-naming-is : (a b : Naming) → a.namer ≡ b.namer → a.at ≡ b.at → a.expected ≡ b.expected → a.how ≡ b.how → a.oid ≡ b.oid → a ≡ b
-unfolding naming_by
-naming-is a b p q r s t = let k : naming_by a.namer a.at a.expected a.how a.oid ≡ naming_by b.namer b.at b.expected b.how b.oid = cc in k
-
 pub naming-one : CmpEqualImpliesEq naming_rank
 naming-one a b e =
     let t1 = both-tie (namer_rank a.namer b.namer) (ordering_then (nat_cmp a.at b.at) (ordering_then (expected_rank a.expected b.expected) (ordering_then (look_rank a.how b.how) (nat_cmp a.oid b.oid)))) e in
@@ -209,18 +189,11 @@ who-one x y e =
     let ranks : Each Ordering whos.the_type.parts = (point, (point, (point, (point, (point, (point, (point, ((λ a b. naming_rank a.0 b.0), ((λ a b. ordering_then (nat_cmp a.0 b.0) (record_rank a.1.0 b.1.0)), ((λ a b. ordering_then (naming_rank a.0 b.0) (nat_cmp a.1.0 b.1.0)), ((λ a b. nat_cmp a.0 b.0), tt))))))))))) in
     whos.the_type.to_one x y (ap (intoss whos.the_type.parts) (choices-one whos.the_type.parts ranks (at-point, (at-point, (at-point, (at-point, (at-point, (at-point, (at-point, (field-one naming_rank naming-one, (fields-one nat_cmp record_rank exact_unsigned record-one, (fields-one naming_rank nat_cmp naming-one exact_unsigned, (field-one nat_cmp exact_unsigned, tt))))))))))) (whos.as_values x) (whos.as_values y) e))
 
-owner_by : ℕ → ℕ → Who → Owner
-owner_by first blocks who = record { first = first; blocks = blocks; who = who }
-
-owner-is : (a b : Owner) → a.first ≡ b.first → a.blocks ≡ b.blocks → a.who ≡ b.who → a ≡ b
-unfolding owner_by
-owner-is a b p q r = let k : owner_by a.first a.blocks a.who ≡ owner_by b.first b.blocks b.who = cc in k
-
 pub owner-one : CmpEqualImpliesEq owner_rank
 owner-one a b e =
     let t1 = both-tie (nat_cmp a.first b.first) (ordering_then (nat_cmp a.blocks b.blocks) (who_rank a.who b.who)) e in
     let t2 = both-tie (nat_cmp a.blocks b.blocks) (who_rank a.who b.who) t1.1 in
-    owner-is a b (exact_unsigned a.first b.first t1.0) (exact_unsigned a.blocks b.blocks t2.0) (who-one a.who b.who t2.1)
+    owner-is a b (who-one a.who b.who t2.1) (exact_unsigned a.first b.first t1.0) (exact_unsigned a.blocks b.blocks t2.0)
 
 -- ---- and what is told as equal is one
 abbrev pub naming_eq : Naming → Naming → Bool

@@ -24,13 +24,15 @@ use Rattle.reach_rules.specs.declared.naming.Namer.TheVariants.{Whole}
 use Rattle.reach_rules.specs.declared.naming.Naming.{Naming}
 use Rattle.reach_rules.specs.Resolved.{Found, resolved, mapped}
 use Rattle.reach_rules.specs.Tested.{Answer, of_header, head_tested, tested}
-use Rattle.reach_rules.specs.Next.{names, names_if, next}
+use Rattle.reach_rules.specs.Next.{names, next}
 use Rattle.reach_rules.specs.Live.{IsLive, IsSoundFor}
 use Rattle.reach_rules.specs.Features.{field_features, tested_features, used_features, features_through, HasFeature, of}
 use Rattle.reach_rules.specs.Faults.{within_of, xid_of}
 use Rattle.reach_rules.specs.Reached.{IsReachedFault}
+use Rattle.reach_rules.proofs.SpaceDecided.{ok-features}
 use Rattle.reach_gather.specs.Namings.{IsPlainNaming}
 use Rattle.reach_gather.specs.Told.{judged, told, unsound, told_through, found_mapped, told_mapped}
+use Rattle.reach_gather.proofs.Parts.{sound-next}
 
 -- ---- a fault
 judged-fault : (image : List ℕ) (seen : Seen) (n : Naming) (f : Found) (fault : ReachFault) → IsLive image seen n → resolved image seen n ≡ Some f → (a : Answer) → tested (site_of seen) n.expected n.oid f.bytes ≡ a → judged f a ≡ Err (stops.Found fault) → IsReachedFault image seen fault
@@ -87,7 +89,7 @@ told-present image seen n stops.ReadFault live e = tt
 told-present image seen n stops.NoMemory live e = tt
 
 -- ---- an object
-judged-ok : (f g : Found) (a : Answer) → judged f a ≡ Ok g → (f ≡ g) × (is_ok a ≡ true)
+pub judged-ok : (f g : Found) (a : Answer) → judged f a ≡ Ok g → (f ≡ g) × (is_ok a ≡ true)
 judged-ok f g (Ok b) e = (cc, refl)
 judged-ok f g (Err (Fails why)) e = absurd cc
 judged-ok f g (Err (Unsupported feature)) e = absurd cc
@@ -127,14 +129,10 @@ told-free image seen n stops.ReadFault p e = tt
 told-free image seen n stops.NoMemory p e = tt
 
 -- ---- the features of its fields
-ok-features : (image : List ℕ) (seen : Seen) (n : Naming) (f : Found) (a : Answer) → is_ok a ≡ true → tested_features image seen n.expected f a ≡ field_features image seen n.expected f.block f.bytes
-ok-features image seen n f (Ok b) t = refl
-ok-features image seen n f (Err bad) t = absurd (let z : false ≡ true = t in let q : ⊥ = cc in q)
-
 pub told-features : (image : List ℕ) (seen : Seen) (n : Naming) (f : Found) → told_through image seen n ≡ Ok f → features_through image seen n ≡ used_features (site_of seen) f.object ++ field_features image seen n.expected f.block f.bytes
 told-features image seen n f e =
     let t = told-ok image seen n f e in
-    through-found image seen n f t.found ∙ ap (λ xs. used_features (site_of seen) f.object ++ xs) (ok-features image seen n f (tested (site_of seen) n.expected n.oid f.bytes) t.sound)
+    through-found image seen n f t.found ∙ ap (λ xs. used_features (site_of seen) f.object ++ xs) (ok-features image seen n.expected f (tested (site_of seen) n.expected n.oid f.bytes) t.sound)
 
 -- an object without features is that of a plain naming
 pub told-plain : (image : List ℕ) (seen : Seen) (n : Naming) (f : Found) → told_through image seen n ≡ Ok f → used_features (site_of seen) f.object ++ field_features image seen n.expected f.block f.bytes ≡ [] → IsPlainNaming image seen n
@@ -151,16 +149,8 @@ pub has-unplain : (image : List ℕ) (seen : Seen) (n : Naming) (f : Found) (fea
 has-unplain image seen n f feature p e h = subst (λ xs. In (feature, f.block) xs) (sym (told-features image seen n f e) ∙ p.plain) h
 
 -- ---- what it names
-ok-names : (image : List ℕ) (seen : Seen) (n : Naming) (f : Found) (a : Answer) → is_ok a ≡ true → names_if image seen n f a ≡ names image seen n.how n.expected (Whole f.object) f.bytes
-ok-names image seen n f (Ok b) t = refl
-ok-names image seen n f (Err bad) t = absurd (let z : false ≡ true = t in let q : ⊥ = cc in q)
-
 pub told-next : (image : List ℕ) (seen : Seen) (n : Naming) (f : Found) → told_through image seen n ≡ Ok f → next image seen n ≡ names image seen n.how n.expected (Whole f.object) f.bytes
-unfolding next
-told-next image seen n f e =
-    let t = told-ok image seen n f e in
-    ap (λ o. through o (λ (g : Found). names_if image seen n g (tested (site_of seen) n.expected n.oid g.bytes))) t.found
-    ∙ ok-names image seen n f (tested (site_of seen) n.expected n.oid f.bytes) t.sound
+told-next image seen n f e = let t = told-ok image seen n f e in sound-next image seen n f t.found t.sound
 
 -- ---- mapped objects
 -- a mapped object that is found is one of the mappings

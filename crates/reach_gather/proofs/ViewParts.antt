@@ -4,7 +4,7 @@ use Rattle.std.proofs.lemmas.List.{append-nil}
 use Rattle.std.specs.List.{flat_map, range_with_len}
 use Rattle.apfs_model.specs.Lists.{In, Lists, through}
 use Rattle.apfs_model.proofs.BoolTests.{clash}
-use Rattle.apfs_model.proofs.Searches.{in-append, in-map, from-map, from-flat_map}
+use Rattle.apfs_model.proofs.Searches.{in-map, from-map, from-flat_map}
 use Rattle.bt_node.specs.Entries.{Pair, bytes_in}
 use Rattle.bt_node.specs.Node.{level_of}
 use Rattle.bt_cursor.specs.declared.step.Step.{Step}
@@ -44,6 +44,7 @@ use Rattle.reach_gather.specs.Tells.{objects_through, IsThrough, ArePlainFrom, A
 use Rattle.reach_gather.specs.ViewParts.{ExpectsOfView, IsOfView, is_in_view, record_object, record_owner, ResolvesTo, AreRecordsOf, ViewsTell, AreOutside, OutsideViews, AreOnceAs, JoinedTells}
 use Rattle.reach_gather.proofs.Joined.{live-among}
 use Rattle.reach_gather.proofs.Tells.{part-tells, plain-tells}
+use Rattle.reach_gather.proofs.Growing.{outside-both}
 
 -- ---- what views name
 of-view : (n : Naming) (view : ViewAt) → n.how ≡ InView view → ExpectsOfView n.expected → IsOfView n
@@ -180,9 +181,6 @@ outside-one : (n : Naming) (ns : List Naming) → is_in_view n.how ≡ false →
 outside-one n ns e a m (inl s) = subst (λ (x : Naming). is_in_view x.how ≡ false) (sym s) e
 outside-one n ns e a m (inr h) = a m h
 
-outside-join : (ns ms : List Naming) → AreOutside ns → AreOutside ms → AreOutside (ns ++ ms)
-outside-join ns ms a b n h = elim (in-append n ns ms h) as (λ _. is_in_view n.how ≡ false) [ inl k ↦ a n k | inr k ↦ b n k ]
-
 outside-flat : {X : Type 0} (f : X → List Naming) (xs : List X) → ((x : X) → In x xs → AreOutside (f x)) → AreOutside (flat_map f xs)
 outside-flat f xs a n h = let t = from-flat_map f n xs h in a t.0 t.1.0 n t.1.1
 
@@ -207,7 +205,7 @@ outside-kept : (slot : ℕ) (bytes : List ℕ) (extents : ℕ → List Naming) (
 outside-kept slot bytes extents i [] a = outside-none
 outside-kept slot bytes extents i (pair ∷ pairs) a =
     let n : Naming = super_naming (past_view slot bytes i pair) (bytes_in pair.value) in
-    outside-join (if is_snapshot_long pair then n ∷ extents i else []) (kept_namings slot bytes extents (suc i) pairs)
+    outside-both (if is_snapshot_long pair then n ∷ extents i else []) (kept_namings slot bytes extents (suc i) pairs)
     (outside-if (is_snapshot_long pair) (n ∷ extents i) (outside-one n (extents i) refl (a i))) (outside-kept slot bytes extents (suc i) pairs a)
 
 outside-addresses : (namer : Namer) (manager : List ℕ) → Each IsTelling (address_namings namer manager)
@@ -238,7 +236,7 @@ pub outside-views : (image : List ℕ) (seen : Seen) → OutsideViews image seen
 outside-views image seen = record {
   none = outside-none;
   one = outside-one;
-  join = outside-join;
+  join = outside-both;
   each = λ f ks a. outside-flat f ks a;
   all = λ f ns a. outside-flat f ns a;
   unless = outside-unless;

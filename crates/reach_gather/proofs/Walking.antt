@@ -1,7 +1,8 @@
 -- Trees that are whole, and what the namings of their roots lead to, by the steps that a walk met.
-use Rattle.std.proofs.Common.{◌≡◌, ℕ, zero, suc, ◌+◌, Bool, true, false, ◌||◌, List, [], ◌∷◌, length, Option, Some, None, refl, ap, sym, ◌∙◌, subst, arith, length-append}
+use Rattle.std.proofs.Common.{◌≡◌, ℕ, zero, suc, ◌+◌, Bool, true, false, List, [], ◌∷◌, length, Option, Some, None, refl, ap, sym, ◌∙◌, subst, arith, length-append}
 use Rattle.std.specs.Prelude.{is_none, slice_get, ◌==◌, if◌then◌else◌}
 use Rattle.std.proofs.lemmas.Bool.Decides.{nat_tests}
+use Rattle.std.proofs.lemmas.Bool.{or_parts}
 use Rattle.std.specs.List.{list_any}
 use Rattle.apfs_model.specs.Lists.{passes}
 use Rattle.bt_node.specs.Shape.{Shape}
@@ -43,19 +44,11 @@ none-from None e = refl
 none-from (Some n) e = absurd (cc)
 
 -- ---- what is too short
-or-first : (a b : Bool) → (a || b) ≡ false → a ≡ false
-or-first true b e = e
-or-first false b e = refl
-
-or-second : (a b : Bool) → (a || b) ≡ false → b ≡ false
-or-second true b e = absurd (cc)
-or-second false b e = e
-
 -- where no item is refused, none is too short
 never-short : (refuses short : Item → Bool) → ((item : Item) → refuses item ≡ short item) → (items : List Item) → list_any refuses items ≡ false → (number : ℕ) → passes (slice_get items number) short ≡ false
 never-short refuses short same [] e number = refl
-never-short refuses short same (item ∷ items) e zero = sym (same item) ∙ or-first (refuses item) (list_any refuses items) e
-never-short refuses short same (item ∷ items) e (suc number) = never-short refuses short same items (or-second (refuses item) (list_any refuses items) e) number
+never-short refuses short same (item ∷ items) e zero = sym (same item) ∙ (or_parts (refuses item) (list_any refuses items) e).0
+never-short refuses short same (item ∷ items) e (suc number) = never-short refuses short same items (or_parts (refuses item) (list_any refuses items) e).1 number
 
 -- ---- a whole tree
 pub whole-from : {K : Type 0} {image : List ℕ} {seen : Seen} {kind : TreeKind} {how : LookUp} {object : ℕ → Object} {shape : Shape K} {named : ℕ → Option ℕ} → IsKindOf image seen kind how object shape named → (root : ℕ) (refuses : Item → Bool) →

@@ -4,7 +4,7 @@ use Rattle.std.proofs.lemmas.Grind.{common_steps}
 use Rattle.std.proofs.lemmas.List.{length-map}
 use Rattle.apfs_model.specs.Apart.{Apart}
 use Rattle.apfs_model.specs.Lists.{In, has, last_or}
-use Rattle.apfs_model.proofs.BoolTests.{clash, never-true, equal-from}
+use Rattle.apfs_model.proofs.BoolTests.{clash}
 use Rattle.apfs_model.proofs.Finite.{apart-length}
 use Rattle.apfs_model.proofs.Searches.{in-left, in-right, in-append, in-has}
 use Rattle.obj_base.specs.declared.stop.Within.TheVariants.{Ephemeral}
@@ -27,6 +27,7 @@ use Rattle.reach_rules.specs.Faults.{is_once, within_of, xid_of, IsNamedTwice}
 use Rattle.reach_rules.proofs.Nexts.{in-unless}
 use Rattle.reach_gather.specs.Namings.{IsPlainNaming}
 use Rattle.reach_gather.specs.Reaped.{list_namings, reaper_namings, reaper_root, IsReaperLive, IsReaped, IsRightReaper, expected_at, next_at, IsLink}
+use Rattle.reach_gather.proofs.Finishes.{apart-append}
 
 -- no id was met yet
 abbrev pub none : List ℕ → Bool
@@ -227,11 +228,7 @@ met-clash image seen ids oid some apart h w right =
 
 -- ---- ids without repeats
 pub apart-push : (ids : List ℕ) (oid : ℕ) → Apart ids → (In oid ids → ⊥) → Apart (ids ++ oid ∷ [])
-apart-push [] oid a out = (λ h. h, tt)
-apart-push (i ∷ ids) oid a out = (
-  (λ h. elim (in-append i ids (oid ∷ []) h) as (λ _. ⊥) [ inl k ↦ a.0 k | inr k ↦ elim k as (λ _. ⊥) [ inl e ↦ out (inl (sym e)) | inr x ↦ x ] ]),
-  apart-push ids oid a.1 (λ h. out (inr h)),
-)
+apart-push ids oid a out = apart-append ids (oid ∷ []) a (λ h. h, tt) (λ i h k. elim k as (λ _. ⊥) [ inl e ↦ out (subst (λ x. In x ids) e h) | inr x ↦ x ])
 
 pub known-push : (ids all : List ℕ) (oid : ℕ) → ((k : ℕ) → In k ids → In k all) → In oid all → (k : ℕ) → In k (ids ++ oid ∷ []) → In k all
 known-push ids all oid f h k g = elim (in-append k ids (oid ∷ []) g) as (λ _. In k all) [ inl a ↦ f k a | inr b ↦ elim b as (λ _. In k all) [ inl e ↦ subst (λ x. In x all) (sym e) h | inr x ↦ absurd x ] ]
@@ -249,9 +246,6 @@ way-init image seen ids nx oid a b c =
 pub none-is : (ids : List ℕ) → (length ids == 0) ≡ none ids
 none-is [] = refl
 none-is (i ∷ ids) = grind (arith, common_steps)
-
-pub nonzero : (oid : ℕ) → (oid ≡ 0 → ⊥) → (oid == 0) ≡ false
-nonzero oid e = never-true (oid == 0) (λ t. e (equal-from oid 0 t))
 
 pub out-of : (ids : List ℕ) (oid : ℕ) → has ids oid ≡ false → In oid ids → ⊥
 out-of ids oid e h = clash (has ids oid) (in-has oid ids h) e

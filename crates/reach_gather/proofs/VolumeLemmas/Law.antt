@@ -1,5 +1,5 @@
 -- The law of the parts of a container that `heads` and `load` have tested.
-use Rattle.std.proofs.Common.{◌≡◌, ℕ, List, ◌++◌, map, Option, Some, inr, ap, sym, ◌∙◌, subst}
+use Rattle.std.proofs.Common.{◌≡◌, ℕ, List, ◌++◌, map, Some, inr, ap, sym, ◌∙◌, subst}
 use Rattle.apfs_model.specs.Lists.{In}
 use Rattle.apfs_model.proofs.Searches.{in-right, in-map, from-map}
 use Rattle.nx_block.specs.Super.{omap_oid_of, reaper_oid_of, jumpstart_of}
@@ -24,6 +24,7 @@ use Rattle.reach_gather.proofs.VolumeLemmas.Heads.{IsRightHead, head-right}
 use Rattle.reach_gather.proofs.VolumeLemmas.Slots.{slots-are}
 use Rattle.reach_gather.proofs.VolumeLemmas.Others.{of_slots, in-slots, volume-slots}
 use Rattle.reach_gather.proofs.VolumeLemmas.Loads.{volume-part}
+use Rattle.reach_gather.proofs.Slots.{found-one}
 
 -- the namings of slots are among those of the newest superblock
 slot-live : (image : List ℕ) (seen : Seen) (n : Naming) → In n (of_slots seen) → IsLive image seen n
@@ -41,13 +42,10 @@ head-live image seen heads head are h = slot-live image seen (head_naming head) 
 pub heads-only : (image : List ℕ) (seen : Seen) (heads : List VolHead) (n : Naming) → AreHeads image seen heads → In n (of_slots seen) → In n (map head_naming heads)
 heads-only image seen heads n are h = subst (In n) (slots-are image seen heads are) h
 
--- the object of a head's naming has the bytes of the head's superblock
-one-object : (o : Option Found) (f g : Found) → o ≡ Some f → o ≡ Some g → f ≡ g
-one-object o f g a b = let z : Some f ≡ Some g = sym a ∙ b in cc
-
-same-slot : (a b : ℕ) → VolumeIn a ≡ VolumeIn b → a ≡ b
+pub same-slot : (a b : ℕ) → VolumeIn a ≡ VolumeIn b → a ≡ b
 same-slot a b e = cc
 
+-- the object of a head's naming has the bytes of the head's superblock
 given-by : (image : List ℕ) (seen : Seen) (heads : List VolHead) (slot map : ℕ) → AreHeads image seen heads → GivesMap image seen slot map → IsGivenBy image seen heads slot map
 given-by image seen heads slot map are g =
     let n : Naming = g.naming in
@@ -57,7 +55,7 @@ given-by image seen heads slot map are g =
     let h : IsRightHead image seen head = head-right image seen heads head are t.1.0 in
     let thing : Found = standing image (site_of seen) (OfRecord (omap_oid_of seen.nx) h.mapping) head.block in
     let found : resolved image seen (head_naming head) ≡ Some thing = record-found image seen (Whole Newest) _ (VolumeIn head.slot) head.oid head.block h.mapping h.mapped h.inside in
-    let object : g.object ≡ thing = one-object (resolved image seen n) g.object thing g.names.names.found (ap (resolved image seen) same ∙ found) in
+    let object : g.object ≡ thing = found-one (resolved image seen n) g.object thing g.names.names.found (ap (resolved image seen) same ∙ found) in
     record {
       head = head;
       one = t.1.0;

@@ -1,8 +1,7 @@
--- What the naming of a sound object resolves to and leads to, and that it is plain.
-use Rattle.std.proofs.Common.{◌≡◌, ℕ, Bool, true, false, List, [], ◌++◌, None, Some, Result, Ok, Err, is_ok, refl, ap, ◌∙◌, if◌then◌else◌}
+-- What the naming of a sound object resolves to, and that it passes its tests.
+use Rattle.std.proofs.Common.{◌≡◌, ℕ, Bool, true, List, None, Some, Result, Ok, Err, is_ok, ap, ◌∙◌, if◌then◌else◌}
 use Rattle.std.specs.Prelude.{option_map, option_and_then}
 use Rattle.apfs_model.specs.Blocks.{in_container}
-use Rattle.apfs_model.specs.Lists.{through}
 use Rattle.apfs_model.specs.Object.{map_kind, volume_kind}
 use Rattle.obj_base.specs.Sound.{sound_of, expecting}
 use Rattle.obj_base.specs.declared.header.Header.{Header}
@@ -17,55 +16,17 @@ use Rattle.omap_map.specs.declared.records.OmapRecord.{OmapRecord}
 use Rattle.vol_view.specs.Heads.{has_magic}
 use Rattle.reach_rules.specs.declared.fault.Why.TheVariants.{Magic}
 use Rattle.reach_rules.specs.declared.naming.ViewAt.{ViewAt}
-use Rattle.reach_rules.specs.declared.naming.LookUp.TheVariants.{ByBlock, InContainer}
-use Rattle.reach_rules.specs.declared.naming.Object.TheVariants.{InBlock, OfRecord}
+use Rattle.reach_rules.specs.declared.naming.LookUp.TheVariants.{InContainer}
+use Rattle.reach_rules.specs.declared.naming.Object.TheVariants.{OfRecord}
 use Rattle.reach_rules.specs.declared.naming.Namer.{Namer}
-use Rattle.reach_rules.specs.declared.naming.Namer.TheVariants.{Whole}
 use Rattle.reach_rules.specs.declared.naming.Expected.{Expected}
 use Rattle.reach_rules.specs.declared.naming.Expected.TheVariants.{ContainerMap, VolumeIn, VolumeMap, SnapshotSuper}
-use Rattle.reach_rules.specs.declared.naming.Naming.{Naming}
 use Rattle.reach_rules.specs.Naming.{naming}
-use Rattle.reach_rules.specs.Resolved.{Found, resolved, standing, recorded}
+use Rattle.reach_rules.specs.Resolved.{resolved, standing, recorded}
 use Rattle.reach_rules.specs.Tested.{Answer, of_header, with_magic, tested}
-use Rattle.reach_rules.specs.Next.{names, names_if, next}
-use Rattle.reach_rules.specs.Live.{IsSoundFor}
-use Rattle.reach_rules.specs.Features.{used_features, field_features, tested_features, features_through}
-use Rattle.reach_gather.specs.Namings.{IsPlainNaming}
-
--- ---- what it leads to
-names-passed : (image : List ℕ) (seen : Seen) (n : Naming) (f : Found) (a : Answer) → is_ok a ≡ true → names_if image seen n f a ≡ names image seen n.how n.expected (Whole f.object) f.bytes
-names-passed image seen n f (Ok bytes) e = refl
-names-passed image seen n f (Err bad) e = absurd (let z : false ≡ true = e in let q : ⊥ = cc in q)
-
-pub sound-next : (image : List ℕ) (seen : Seen) (n : Naming) (f : Found) → resolved image seen n ≡ Some f → IsSoundFor seen n f → next image seen n ≡ names image seen n.how n.expected (Whole f.object) f.bytes
-unfolding next
-sound-next image seen n f e s =
-    ap (λ o. through o (λ (f : Found). names_if image seen n f (tested (site_of seen) n.expected n.oid f.bytes))) e ∙ names-passed image seen n f (tested (site_of seen) n.expected n.oid f.bytes) s
-
--- ---- its features are those of its fields
-features-passed : (image : List ℕ) (seen : Seen) (e : Expected) (f : Found) (a : Answer) → is_ok a ≡ true → tested_features image seen e f a ≡ field_features image seen e f.block f.bytes
-features-passed image seen e f (Ok bytes) s = refl
-features-passed image seen e f (Err bad) s = absurd (let z : false ≡ true = s in let q : ⊥ = cc in q)
-
-pub sound-plain : (image : List ℕ) (seen : Seen) (n : Naming) (f : Found) → resolved image seen n ≡ Some f → IsSoundFor seen n f → used_features (site_of seen) f.object ≡ [] → field_features image seen n.expected f.block f.bytes ≡ [] → IsPlainNaming image seen n
-unfolding features_through
-sound-plain image seen n f e s used fields =
-    let a : Answer = tested (site_of seen) n.expected n.oid f.bytes in
-    record {
-      object = f;
-      found = e;
-      sound = s;
-      plain = ap (λ o. through o (λ (g : Found). used_features (site_of seen) g.object ++ tested_features image seen n.expected g (tested (site_of seen) n.expected n.oid g.bytes))) e
-          ∙ (ap (λ xs. xs ++ tested_features image seen n.expected f a) used
-          ∙ (features-passed image seen n.expected f a s ∙ fields));
-    }
+use Rattle.reach_rules.proofs.SpaceLifted.{ok-header}
 
 -- ---- what it resolves to
--- a block of the container is found
-pub block-found : (image : List ℕ) (seen : Seen) (namer : Namer) (at : ℕ) (e : Expected) (oid : ℕ) → in_container (site_of seen).blocks oid ≡ Some oid → resolved image seen (naming namer at e ByBlock oid) ≡ Some (standing image (site_of seen) (InBlock oid) oid)
-unfolding resolved
-block-found image seen namer at e oid inside = ap (option_map (λ block. standing image (site_of seen) (InBlock block) block)) inside
-
 -- what a record of the container's map gives is found
 pub record-found : (image : List ℕ) (seen : Seen) (namer : Namer) (at : ℕ) (e : Expected) (oid block : ℕ) (r : OmapRecord) → resolved_in image (site_of seen) (omap_oid_of seen.nx) oid seen.line.xid ≡ Some r → in_container (site_of seen).blocks r.paddr ≡ Some block →
     resolved image seen (naming namer at e InContainer oid) ≡ Some (standing image (site_of seen) (OfRecord (omap_oid_of seen.nx) r) block)
@@ -74,11 +35,6 @@ record-found image seen namer at e oid block r found inside =
     ap (option_and_then (recorded image (site_of seen) (omap_oid_of seen.nx))) found ∙ ap (option_map (standing image (site_of seen) (OfRecord (omap_oid_of seen.nx) r))) inside
 
 -- ---- its tests
-header-passes : (bytes : List ℕ) (r : Result Header (Bad HeadFault)) → is_ok r ≡ true → is_ok (of_header bytes r) ≡ true
-header-passes bytes (Ok h) e = refl
-header-passes bytes (Err (Fails why)) e = e
-header-passes bytes (Err (Unsupported feature)) e = e
-
 -- the answer by the test of the magic
 abbrev by_magic : List ℕ → Bool → Answer
 by_magic bytes b = if b then Ok bytes else Err (Fails Magic)
@@ -90,11 +46,11 @@ magic-passes bytes (Err (Unsupported feature)) e m = e
 
 pub container-passes : (site : Site) (oid : ℕ) (bytes : List ℕ) → is_ok (sound_of bytes (expecting map_kind (Some oid) site.max_xid)) ≡ true → is_ok (tested site ContainerMap oid bytes) ≡ true
 unfolding tested
-container-passes site oid bytes e = header-passes bytes (sound_of bytes (expecting map_kind (Some oid) site.max_xid)) e
+container-passes site oid bytes e = ok-header bytes (sound_of bytes (expecting map_kind (Some oid) site.max_xid)) e
 
 pub map-passes : (site : Site) (oid : ℕ) (bytes : List ℕ) → is_ok (sound_of bytes (expecting map_kind (Some oid) site.max_xid)) ≡ true → is_ok (tested site VolumeMap oid bytes) ≡ true
 unfolding tested
-map-passes site oid bytes e = header-passes bytes (sound_of bytes (expecting map_kind (Some oid) site.max_xid)) e
+map-passes site oid bytes e = ok-header bytes (sound_of bytes (expecting map_kind (Some oid) site.max_xid)) e
 
 pub volume-passes : (site : Site) (slot oid : ℕ) (bytes : List ℕ) → is_ok (sound_of bytes (expecting volume_kind (Some oid) site.max_xid)) ≡ true → has_magic bytes ≡ true → is_ok (tested site (VolumeIn slot) oid bytes) ≡ true
 unfolding tested

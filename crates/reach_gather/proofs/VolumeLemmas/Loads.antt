@@ -1,10 +1,10 @@
 -- The naming of a volume that was loaded, and what stands below it.
-use Rattle.std.proofs.Common.{◌≡◌, ℕ, Bool, ◌+◌, ◌*◌, true, false, ◌==◌, List, [], ◌∷◌, ◌++◌, map, None, Some, is_ok, inl, inr, refl, ap, sym, ◌∙◌, subst, if◌then◌else◌}
+use Rattle.std.proofs.Common.{◌≡◌, ℕ, Bool, ◌+◌, ◌*◌, true, false, ◌==◌, List, [], ◌++◌, map, None, Some, is_ok, refl, ap, sym, ◌∙◌, subst, if◌then◌else◌}
 use Rattle.std.specs.Prelude.{slice_get}
 use Rattle.std.specs.List.{flat_map}
-use Rattle.apfs_model.specs.Lists.{In}
 use Rattle.apfs_model.proofs.BoolTests.{other-true}
 use Rattle.apfs_model.proofs.Searches.{get-in, from-map}
+use Rattle.apfs_model.proofs.Empty.{none-flat}
 use Rattle.bt_node.specs.Entries.{Pair, bytes_in}
 use Rattle.obj_base.specs.declared.site.Site.{Site}
 use Rattle.bt_cursor.specs.Steps.{steps_of}
@@ -31,22 +31,21 @@ use Rattle.reach_rules.specs.Tested.{tested}
 use Rattle.reach_rules.specs.Next.{next}
 use Rattle.reach_rules.specs.Live.{IsLive}
 use Rattle.reach_rules.specs.Features.{Placed, placed_in, record_features, volume_object_features}
+use Rattle.reach_rules.proofs.SpaceLifted.{block-found}
 use Rattle.reach_gather.specs.Namings.{tree_steps, IsPlainNaming}
 use Rattle.reach_gather.specs.Walked.{IsWholeTree}
 use Rattle.reach_gather.proofs.OfKinds.{metadata-kind}
 use Rattle.reach_gather.specs.Volumes.Told.{head_naming, map_of, told_view, super_in_view, map_in_volume, past_view_of}
 use Rattle.reach_gather.specs.Volumes.Parts.{IsMapPart, IsSnapshotPart, HasWholeMetadata, volume_namer, IsVolumePart}
-use Rattle.reach_gather.proofs.VolumeLemmas.Leads.{sound-next, sound-plain, block-found, record-found, volume-passes, super-passes}
+use Rattle.reach_gather.proofs.VolumeLemmas.Leads.{record-found, volume-passes, super-passes}
 use Rattle.reach_gather.proofs.VolumeLemmas.Trees.{whole-tree}
 use Rattle.reach_gather.proofs.VolumeLemmas.MapParts.{volume-map-part}
 use Rattle.reach_gather.proofs.VolumeLemmas.Heads.{IsRightHead, super-sound, super-magic}
 use Rattle.reach_gather.proofs.VolumeLemmas.Tellings.{contents-are, map-is, told-same}
+use Rattle.reach_gather.proofs.Container.{plain-by}
+use Rattle.reach_gather.proofs.Parts.{sound-next}
 
 -- ---- no feature is there
-flat-none : {X Y : Type 0} (f : X → List Y) (xs : List X) → ((x : X) → In x xs → f x ≡ []) → flat_map f xs ≡ []
-flat-none f [] none = refl
-flat-none f (x ∷ xs) none = ap (λ ys. ys ++ flat_map f xs) (none x (inl refl)) ∙ flat-none f xs (λ y h. none y (inr h))
-
 record-plain : (pair : Pair) → snapshot_record_features (snap_flags_of (bytes_in pair.value)) ≡ [] → record_features pair ≡ []
 record-plain pair e =
     let there : List Placed = placed_in (snap_super_of (bytes_in pair.value)) (snapshot_record_features (snap_flags_of (bytes_in pair.value))) in
@@ -57,7 +56,7 @@ fields-plain : (image : List ℕ) (seen : Seen) (head : VolHead) → IsLoadable 
 fields-plain image seen head right =
     let pairs : List Pair = snapshot_pairs (metadata_of image (site_of seen) head) in
     ap (λ fs. placed_in head.block fs ++ flat_map record_features pairs) right.plain
-    ∙ flat-none record_features pairs (λ pair h. record-plain pair (right.snapshots pair h).unmarked)
+    ∙ none-flat record_features pairs (λ pair h. record-plain pair (right.snapshots pair h).unmarked)
 
 -- ---- the superblocks of snapshots
 record IsSuperPart (image : List ℕ) (seen : Seen) (view : ViewAt) (s : Snapshot) : Type 0 where
@@ -74,7 +73,7 @@ super-part image seen view pair right =
     let found : resolved image seen n ≡ Some f = block-found image seen (Kept view) 8 (SnapshotSuper view) b right.inside in
     let sound : is_ok (tested site (SnapshotSuper view) b (super_in image site b)) ≡ true = super-passes site view b (super_in image site b) (super-sound image site None b right.super) (super-magic image site None b right.super) in
     record {
-      plain = sound-plain image seen n f found sound refl (ap (placed_in b) right.plain);
+      plain = plain-by image seen n f found sound refl (ap (placed_in b) right.plain);
       leads = sound-next image seen n f found sound;
     }
 
@@ -121,7 +120,7 @@ loaded-part image seen head h live right =
       mapping = h.mapping;
       mapped = h.mapped;
       found = found;
-      plain = sound-plain image seen n f found sound (ap (placed_in h.mapping.paddr) h.plain) (fields-plain image seen head right);
+      plain = plain-by image seen n f found sound (ap (placed_in h.mapping.paddr) h.plain) (fields-plain image seen head right);
       leads = sound-next image seen n f found sound ∙ sym (told-same image seen head me right);
       map = subst (λ b. IsMapPart image seen (map_in_volume me b)) (sym at) (volume-map-part image seen me (map_block_of image site head) right.map right.settled right.unmarked);
       contents = contents-are image site head right.map ∙ ap (contents_of image site) (sym at);

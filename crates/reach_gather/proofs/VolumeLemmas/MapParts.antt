@@ -27,11 +27,14 @@ use Rattle.reach_rules.specs.Resolved.{Found, standing}
 use Rattle.reach_rules.specs.Tested.{tested}
 use Rattle.reach_rules.specs.Next.{names, map_namings}
 use Rattle.reach_rules.specs.Features.{placed_in, field_features}
+use Rattle.reach_rules.proofs.SpaceLifted.{block-found}
 use Rattle.reach_gather.proofs.OfKinds.{records-kind, snapshots-kind}
 use Rattle.reach_gather.specs.Volumes.Parts.{IsMapPart, container_map}
 use Rattle.reach_gather.specs.Volumes.Told.{map_in_volume}
-use Rattle.reach_gather.proofs.VolumeLemmas.Leads.{sound-next, sound-plain, block-found, container-passes, map-passes}
+use Rattle.reach_gather.proofs.VolumeLemmas.Leads.{container-passes, map-passes}
 use Rattle.reach_gather.proofs.VolumeLemmas.Trees.{whole-tree}
+use Rattle.reach_gather.proofs.Container.{plain-by}
+use Rattle.reach_gather.proofs.Parts.{sound-next}
 
 object-head : (image : List ℕ) (site : Site) (block : ℕ) → is_map_object image site block ≡ true → is_ok (head_of image site block) ≡ true
 unfolding is_map_object
@@ -63,7 +66,7 @@ map-part image seen namer at e oid whole settled passes leads fields =
     let found = block-found image seen namer at e oid inside in
     let sound : is_ok (tested (site_of seen) e oid (map_in image (site_of seen) oid)) ≡ true = passes (object-head image (site_of seen) oid object) in
     record {
-      plain = sound-plain image seen n f found sound refl fields;
+      plain = plain-by image seen n f found sound refl fields;
       leads = sound-next image seen n f found sound ∙ leads (Whole (InBlock oid)) (map_in image (site_of seen) oid);
       whole = whole;
       settled = settled;
