@@ -6,6 +6,7 @@ use Rattle.std.proofs.lemmas.Bool.Decides.{nat_tests}
 use Rattle.std.proofs.lemmas.List.{take-append-drop, take_more}
 use Rattle.std.proofs.lemmas.List.Folds.{list_any-append}
 use Rattle.std.proofs.lemmas.List.Sums.{sum_by-cons, sum_by_more}
+use Rattle.std.proofs.lemmas.Bool.{or_from}
 use Rattle.apfs_model.specs.Blocks.{is_in}
 use Rattle.apfs_model.specs.Lists.{In}
 use Rattle.apfs_model.proofs.BoolTests.{test_or, clash, upto-from}
@@ -13,9 +14,6 @@ use Rattle.own_ledger.proofs.MarkLemmas.{count_first, count_split, in-below}
 use Rattle.reach_rules.specs.Settled.{has_block, is_held}
 use Rattle.own_settle.specs.InOrder.{AreInOrder, blocks_in}
 use Rattle.own_settle.proofs.ClaimLemmas.{held-more}
-
-pub or-none : (a b : Bool) → a ≡ false → b ≡ false → (a || b) ≡ false
-or-none a b x y = ap₂ (λ p q. p || q) x y
 
 -- ---- what lies in order
 
@@ -76,7 +74,7 @@ order-none from to [] block h low = refl
 order-none from to (r ∷ rs) block h low =
     let begins = h.0 in
     let out : is_in block r.0 r.1 ≡ false = grind (arith, nat_tests) in
-    or-none (has_block block r) (is_held rs block) out (order-none (r.0 + r.1) to rs block h.1 (omega arith))
+    or_from (has_block block r) (is_held rs block) out (order-none (r.0 + r.1) to rs block h.1 (omega arith))
 
 pub held-split : (rs : List (ℕ × ℕ)) (n block : ℕ) → is_held rs block ≡ (is_held (take n rs) block || is_held (drop n rs) block)
 held-split rs n block = ap (λ xs. is_held xs block) (sym (take-append-drop n rs)) ∙ list_any-append (has_block block) (take n rs) (drop n rs)
