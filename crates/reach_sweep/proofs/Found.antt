@@ -6,6 +6,7 @@ use Rattle.std.proofs.lemmas.List.{take_more}
 use Rattle.std.proofs.lemmas.List.Elements.{filter_map-append}
 use Rattle.apfs_model.specs.Lists.{In}
 use Rattle.apfs_model.proofs.Searches.{in-map, from-map}
+use Rattle.apfs_model.proofs.Greatest.{some-value}
 use Rattle.obj_base.specs.declared.site.Site.{Site}
 use Rattle.nx_block.specs.Super.{omap_oid_of}
 use Rattle.nx_ring.specs.Checkpoint.{Seen, site_of}
@@ -16,6 +17,7 @@ use Rattle.vol_view.specs.Volumes.{Loaded}
 use Rattle.vol_view.specs.declared.head.VolHead.{VolHead}
 use Rattle.reach_rules.specs.declared.naming.Namer.{Namer}
 use Rattle.reach_gather.specs.Volumes.Laws.{HasParts}
+use Rattle.reach_gather.proofs.VolumeLemmas.Heads.{from-filter_map}
 use Rattle.view_sweep.specs.declared.used.Used.{Used}
 use Rattle.view_sweep.specs.Unused.{used_in}
 use Rattle.reach_sweep.specs.Views.{head_of, AreVolumes}
@@ -34,19 +36,6 @@ in-filter_map {X} {Y} f x y (z ∷ zs) (inl same) e =
     subst (λ (o : Option Y). In y (cons_option o (filter_map f zs))) (sym here) (inl refl)
 in-filter_map f x y (z ∷ zs) (inr m) e = in-cons (f z) y (filter_map f zs) (in-filter_map f x y zs m e)
 
-from-filter_map : {X Y : Type 0} (f : X → Option Y) (y : Y) (xs : List X) → In y (filter_map f xs) → (x : X) × (In x xs × (f x ≡ Some y))
-from-filter_map f y [] h = absurd h
-from-filter_map {X} {Y} f y (z ∷ zs) h =
-    let go : (o : Option Y) → f z ≡ o → In y (cons_option o (filter_map f zs)) → (x : X) × (In x (z ∷ zs) × (f x ≡ Some y)) =
-    λ o. elim o as (λ o. f z ≡ o → In y (cons_option o (filter_map f zs)) → (x : X) × (In x (z ∷ zs) × (f x ≡ Some y))) [
-      | None ↦ λ e k. let t = from-filter_map f y zs k in (t.0, (inr t.1.0, t.1.1))
-      | Some w ↦ λ e k. elim k as (λ _. (x : X) × (In x (z ∷ zs) × (f x ≡ Some y))) [
-        | inl s ↦ (z, (inl refl, e ∙ ap Some (sym s)))
-        | inr m ↦ let t = from-filter_map f y zs m in (t.0, (inr t.1.0, t.1.1))
-      ]
-    ] in
-    go (f z) refl h
-
 -- one more volume
 pub found-more : (seen : Seen) (records : List OmapRecord) (vs : List Loaded) (i : ℕ) (v : Loaded) (old : List Used) → i < length vs → get_or vs i v ≡ v → old ≡ filter_map (found_of seen records) (take i vs)
     → old ++ filter_map (found_of seen records) (v ∷ []) ≡ filter_map (found_of seen records) (take (i + 1) vs)
@@ -61,9 +50,6 @@ through-whole : (image : List ℕ) (site : Site) (block oid x : ℕ) → is_whol
 unfolding resolved_in
 through-whole image site block oid x e = rw e refl
 
-some-one : {X : Type 0} (x y : X) → Some x ≡ Some y → x ≡ y
-some-one x y e = cc
-
 -- the record that is used, of one that was found
 record IsOne (map : ℕ) (o : Option OmapRecord) (u : Used) : Type 0 where
   mapping : OmapRecord
@@ -72,7 +58,7 @@ record IsOne (map : ℕ) (o : Option OmapRecord) (u : Used) : Type 0 where
 
 one-of : (map : ℕ) (o : Option OmapRecord) (u : Used) → option_map (used_in map) o ≡ Some u → IsOne map o u
 one-of map None u e = absurd (let z : ◌≡◌ {A = Option Used} None (Some u) = e in let q : ⊥ = cc in q)
-one-of map (Some r) u e = record { mapping = r; is = refl; used_is = some-one u (used_in map r) (sym e) }
+one-of map (Some r) u e = record { mapping = r; is = refl; used_is = some-value u (used_in map r) (sym e) }
 
 -- a record by which a volume is found is that of its head
 head-record : (image : List ℕ) (seen : Seen) (heads : List VolHead) (volumes : List Loaded) (records : List OmapRecord) → is_whole_map image (site_of seen) (omap_oid_of seen.nx) ≡ true → heads ≡ map head_of volumes → records ≡ map_records image (site_of seen) (omap_oid_of seen.nx)

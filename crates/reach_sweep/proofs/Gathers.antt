@@ -1,5 +1,5 @@
 -- The first owners, and what the volumes need so that they are added, told of the heads.
-use Rattle.std.proofs.Common.{◌≡◌, ℕ, Bool, true, false, cond, List, [], ◌∷◌, ◌++◌, map, refl, ap, sym, ◌∙◌, subst}
+use Rattle.std.proofs.Common.{◌≡◌, ℕ, Bool, List, [], ◌∷◌, ◌++◌, map, refl, ap, sym, ◌∙◌, subst}
 use Rattle.std.specs.Prelude.{not, ◌==◌, if◌then◌else◌}
 use Rattle.std.proofs.lemmas.List.{append_assoc}
 use Rattle.std.proofs.lemmas.List.Elements.{filter-append}
@@ -22,6 +22,7 @@ use Rattle.reach_gather.specs.Volumes.Laws.{HasParts}
 use Rattle.reach_gather.specs.Held.{Held, some_owners}
 use Rattle.reach_gather.specs.Adds.{Adds, AreLive}
 use Rattle.reach_gather.specs.Views.{AreNamedParts, slots_namings}
+use Rattle.reach_gather.proofs.Telling.{one-some}
 use Rattle.reach_sweep.specs.Views.{head_of, AreVolumes, volumes_views}
 use Rattle.reach_sweep.proofs.Added.{parts-added}
 use Rattle.reach_sweep.proofs.Records.{heads-live}
@@ -30,10 +31,6 @@ use Rattle.reach_sweep.proofs.Records.{heads-live}
 -- an owner, where it has a block
 abbrev pub told_if_some : Owner → List Owner
 told_if_some o = if o.blocks == 0 then [] else o ∷ []
-
-one-some : (b : Bool) (o : Owner) → cond (not b) (o ∷ []) [] ≡ (if b then [] else o ∷ [])
-one-some true o = refl
-one-some false o = refl
 
 -- one more owner was told
 pub some-more : (os : List Owner) (o : Owner) (old mid new : List Owner) → mid ≡ old ++ some_owners os → new ≡ mid ++ told_if_some o → new ≡ old ++ some_owners (os ++ o ∷ [])

@@ -23,9 +23,9 @@ use Rattle.view_sweep.specs.Unused.{used_in}
 use Rattle.view_sweep.proofs.Idles.{maps-unused}
 use Rattle.reach_gather.specs.Finished.{AreRecordsWith}
 use Rattle.reach_gather.proofs.Counts.{IsObjectBy, resolved-by}
+use Rattle.reach_gather.proofs.Slots.{found-one}
 use Rattle.reach_sweep.specs.Composed.{record_used, records_used, AreHeldLive, AreViewsLive, AreUsedBy, AreUnusedPresent}
 use Rattle.reach_sweep.proofs.Added.{held-same}
-use Rattle.reach_sweep.proofs.Records.{one-found}
 
 pub held-live : (image : List ℕ) (seen : Seen) → AreHeldLive image seen
 held-live image seen rest start parts s g n h = g.part.these_live n ((held-same image seen g.these start parts s g.grew).back n h)
@@ -57,7 +57,7 @@ used-record image seen all views records those j recs map r u = elim (j.part.spl
   | inr l ↦
       let k = j.records_are.each u.naming ((parts-join image seen).live_same (all_views image seen) views j.views_are u.naming l) in
       let to : ResolvesTo image seen u.naming k.0 = k.1.1 in
-      let one : to.object ≡ u.object = one-found (resolved image seen u.naming) to.object u.object to.found u.names.found in
+      let one : to.object ≡ u.object = found-one (resolved image seen u.naming) to.object u.object to.found u.names.found in
       let same : k.0 ≡ (map, r) = same-record k.0 (map, r) (sym to.record_is ∙ (ap (λ (f : Found). f.object) one ∙ u.record_is)) in
       subst (λ (q : ℕ × OmapRecord). In q those) same (recs.of_views k.0 k.1.0)
 ]

@@ -1,13 +1,12 @@
 -- The maps whose records are looked at are sound ones of the container.
 use Rattle.std.proofs.Common.{◌≡◌, ℕ, true, List, inl, inr, refl, ap, sym, ◌∙◌, subst}
 use Rattle.apfs_model.specs.Lists.{In}
-use Rattle.apfs_model.proofs.BoolTests.{left-true}
 use Rattle.apfs_model.proofs.Searches.{in-map}
-use Rattle.obj_base.specs.declared.site.Site.{Site}
 use Rattle.obj_base.specs.declared.stop.Within.{Within}
 use Rattle.nx_ring.specs.Checkpoint.{Seen, site_of}
-use Rattle.omap_map.specs.Maps.{Contents, map_records, is_map_object, is_whole_map}
+use Rattle.omap_map.specs.Maps.{Contents, map_records, is_map_object}
 use Rattle.omap_map.specs.declared.records.OmapRecord.{OmapRecord}
+use Rattle.omap_map.proofs.Loads.{whole-object}
 use Rattle.vol_view.specs.Volumes.{Loaded}
 use Rattle.vol_view.specs.declared.head.VolHead.{VolHead}
 use Rattle.reach_rules.specs.declared.naming.Namer.{Namer}
@@ -16,11 +15,6 @@ use Rattle.reach_gather.specs.Volumes.Laws.{HasParts}
 use Rattle.view_sweep.specs.declared.idle.MapRecords.{MapRecords}
 use Rattle.reach_sweep.specs.Views.{head_of, AreVolumes}
 use Rattle.reach_sweep.specs.Composed.{IsContainerMap, IsVolumeMap, AreMapsBy}
-
--- a whole map is a sound object
-whole-object : (image : List ℕ) (site : Site) (block : ℕ) → is_whole_map image site block ≡ true → is_map_object image site block ≡ true
-unfolding is_whole_map
-whole-object image site block e = left-true (is_map_object image site block) _ e
 
 -- a map is a sound one of the container, with its records
 record IsRightMap (image : List ℕ) (seen : Seen) (within : Within) (block : ℕ) (records : List OmapRecord) : Type 0 where

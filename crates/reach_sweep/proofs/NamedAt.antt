@@ -1,5 +1,5 @@
 -- Which live namings expect the volume of a slot or a block that tells of chunks: one of each. And in which maps ids are looked up.
-use Rattle.std.proofs.Common.{◌≡◌, ℕ, zero, suc, ◌+◌, ◌*◌, ◌/◌, Bool, true, false, ◌==◌, List, [], ◌∷◌, ◌++◌, map, Option, Some, inl, refl, ap, sym, ◌∙◌, subst, if◌then◌else◌}
+use Rattle.std.proofs.Common.{◌≡◌, ℕ, zero, suc, ◌+◌, ◌*◌, ◌/◌, Bool, true, false, ◌==◌, List, [], ◌∷◌, ◌++◌, map, Option, Some, inl, refl, ap, sym, ◌∙◌, subst, if◌then◌else◌, ◌⊎◌, inr}
 use Rattle.std.specs.List.{flat_map, range_with_len}
 use Rattle.apfs_model.specs.Blocks.{block_of}
 use Rattle.apfs_model.specs.Lists.{In, through}
@@ -29,14 +29,15 @@ use Rattle.reach_rules.specs.declared.naming.Expected.TheVariants.{SpaceManager,
 use Rattle.reach_rules.specs.declared.naming.Naming.{Naming}
 use Rattle.reach_rules.specs.Naming.{naming}
 use Rattle.reach_rules.specs.Resolved.{Found, resolved, standing}
-use Rattle.reach_rules.specs.Next.{roots, names, unless_zero, slot_namings, map_namings, live_view, view_namings, records_of_snapshots, address_naming, addresses_in, address_namings, manager_namings, is_cib_of, cib_naming, cibs_in, cab_namings, children_in, child_namings, node_namings, volume_namings}
+use Rattle.reach_rules.specs.Next.{roots, names, unless_zero, slot_namings, map_namings, live_view, view_namings, records_of_snapshots, address_naming, address_namings, manager_namings, is_cib_of, cib_naming, cibs_in, cab_namings, children_in, child_namings, node_namings, volume_namings}
 use Rattle.reach_rules.specs.Live.{rooted, led, IsLive, IsSoundFor}
 use Rattle.reach_rules.proofs.Nexts.{Each, each-in, each-append, each-flat, each-unless, Leads, from-next, in-next}
 use Rattle.reach_rules.proofs.SpaceLifted.{there, manager-sound}
 use Rattle.reach_gather.specs.Container.{manager_naming}
+use Rattle.reach_gather.proofs.Slots.{found-one}
+use Rattle.reach_gather.proofs.SpacePart.{IsInfoAt, IsAddressAt, from-addresses}
 use Rattle.reach_sweep.proofs.NextApart.{each-snapshots, each-volume}
 use Rattle.reach_sweep.proofs.Pooled.{StandsAs, each-all, block-stands, live-right}
-use Rattle.reach_sweep.proofs.Records.{one-found}
 
 -- ---- the namings
 -- the volume of a slot is named by the newest superblock
@@ -126,26 +127,12 @@ other-info image seen manager i c e of =
     let other : Naming = info_naming_in image seen manager (address_at manager (c / cab_cibs_of manager)) c in
     ap (λ k. info_naming_in image seen manager (address_at manager k) c) (sym of) ∙ sym (ap (λ (b : Bool). if b then own else other) e)
 
-own-at : (image : List ℕ) (seen : Seen) (manager : List ℕ) → (cabs_of manager == 0) ≡ true → (n : Naming) → In n (map (address_naming InfoBlock (manager_namer seen) manager) (addresses_in manager (cibs_of manager))) → IsNamedAt image seen manager n
-own-at image seen manager e n h =
-    let t = from-map (address_naming InfoBlock (manager_namer seen) manager) (addresses_in manager (cibs_of manager)) n h in
-    subst (IsNamedAt image seen manager) (sym t.1.1) (own-info image seen manager t.0 e, tt)
-
-cab-at : (image : List ℕ) (seen : Seen) (manager : List ℕ) (n : Naming) → In n (map (address_naming AddressBlock (manager_namer seen) manager) (addresses_in manager (cabs_of manager))) → IsNamedAt image seen manager n
-cab-at image seen manager n h =
-    let t = from-map (address_naming AddressBlock (manager_namer seen) manager) (addresses_in manager (cabs_of manager)) n h in
-    subst (IsNamedAt image seen manager) (sym t.1.1) (refl, tt)
+address-named : (image : List ℕ) (seen : Seen) (manager : List ℕ) (n : Naming) → IsInfoAt manager (manager_namer seen) n ⊎ IsAddressAt manager (manager_namer seen) n → IsNamedAt image seen manager n
+address-named image seen manager n (inl (none, a)) = subst (IsNamedAt image seen manager) (sym a.is) (own-info image seen manager a.index none, tt)
+address-named image seen manager n (inr (some, a)) = subst (IsNamedAt image seen manager) (sym a.is) (refl, tt)
 
 address-at : (image : List ℕ) (seen : Seen) (manager : List ℕ) → Each (IsNamedAt image seen manager) (address_namings (manager_namer seen) manager)
-address-at image seen manager =
-    let P : Naming → Type 0 = IsNamedAt image seen manager in
-    let infos : List Naming = map (address_naming InfoBlock (manager_namer seen) manager) (addresses_in manager (cibs_of manager)) in
-    let cabs : List Naming = map (address_naming AddressBlock (manager_namer seen) manager) (addresses_in manager (cabs_of manager)) in
-    let go : (b : Bool) → (cabs_of manager == 0) ≡ b → Each P (if b then infos else cabs) = λ b. elim b as (λ b. (cabs_of manager == 0) ≡ b → Each P (if b then infos else cabs)) [
-      | true ↦ λ e. each-all P infos (own-at image seen manager e)
-      | false ↦ λ e. each-all P cabs (cab-at image seen manager)
-    ] in
-    go (cabs_of manager == 0) refl
+address-at image seen manager = each-all (IsNamedAt image seen manager) (address_namings (manager_namer seen) manager) (λ n h. address-named image seen manager n (from-addresses manager (manager_namer seen) n h))
 
 manager-at : (image : List ℕ) (seen : Seen) (manager : List ℕ) → Each (IsNamedAt image seen manager) (manager_namings (manager_namer seen) manager)
 manager-at image seen manager =
@@ -172,7 +159,7 @@ cibs-at image seen manager i some n h =
 manager-found : (image : List ℕ) (seen : Seen) (manager : List ℕ) (block : ℕ) → HasManager seen manager block → (n : Naming) (f : Found) → n ≡ manager_naming seen.nx → resolved image seen n ≡ Some f → f ≡ there seen manager block
 manager-found image seen manager block has n f is e =
     let s = manager-sound image seen manager block has in
-    one-found (resolved image seen n) f (there seen manager block) e (ap (resolved image seen) is ∙ s.names.found)
+    found-one (resolved image seen n) f (there seen manager block) e (ap (resolved image seen) is ∙ s.names.found)
 
 manager-names : (image : List ℕ) (seen : Seen) (manager : List ℕ) (block : ℕ) (f : Found) → f ≡ there seen manager block → Each (IsNamedAt image seen manager) (manager_namings (Whole f.object) f.bytes)
 unfolding there

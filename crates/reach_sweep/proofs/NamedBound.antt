@@ -37,15 +37,15 @@ use Rattle.reach_gather.specs.Held.{Held}
 use Rattle.reach_gather.specs.Adds.{Adds}
 use Rattle.reach_gather.specs.Finished.{IsObjectOf, AreRecordsWith}
 use Rattle.reach_gather.proofs.Counts.{objects-once}
+use Rattle.reach_gather.proofs.Finishes.{apart-append, apart_map}
 use Rattle.reach_sweep.specs.Composed.{record_used, records_used, IsStart}
 use Rattle.reach_sweep.proofs.Added.{held-same}
 use Rattle.reach_sweep.proofs.Counting.{is_it, times}
 use Rattle.reach_sweep.proofs.LedOnce.{AreLedOnce, led-apart}
 use Rattle.reach_sweep.proofs.Lives.{same-record}
 use Rattle.reach_sweep.proofs.NamedAt.{one-volume}
-use Rattle.reach_sweep.proofs.NextApart.{apart-map, next-apart, roots-apart, IsNamedBy, names-by, roots-by}
+use Rattle.reach_sweep.proofs.NextApart.{next-apart, roots-apart, IsNamedBy, names-by, roots-by}
 use Rattle.reach_sweep.proofs.OneObject.{IsApart, isnt-newest, IsOutside, one-object, views-apart}
-use Rattle.reach_sweep.proofs.Swept.{apart-append}
 
 -- all was added from the roots, with what the views name as its rest
 pub record IsAddedOnce (image : List ℕ) (seen : Seen) (whole : Whole) (rest : List Naming) (start parts : Held) : Type 0 where
@@ -155,7 +155,7 @@ same-used u v e =
     same
 
 records-apart : (used : List Used) → Apart used → Apart (map record_object (records_used used))
-records-apart used apart = apart-map record_object (records_used used) same-record (apart-map record_used used same-used apart)
+records-apart used apart = apart_map record_object same-record (records_used used) (apart_map record_used same-used used apart)
 
 -- the newest superblock, the objects of these, and the records
 joined-apart : (image : List ℕ) (seen : Seen) (whole : Whole) (rest first : List Naming) (used : List Used) (start parts : Held) (a : IsAddedOnce image seen whole rest start parts) → AreReached image seen first used → HaveSame (all_views image seen) first → Apart (joined_objects image seen a.added.these (records_used used))

@@ -1,10 +1,9 @@
 -- What an object names: nothing twice, and each as named by that object, or by the record of a snapshot of that volume.
-use Rattle.std.proofs.Common.{◌≡◌, ℕ, zero, suc, ◌+◌, ◌*◌, ◌<◌, ◌≤◌, Bool, true, false, ◌==◌, List, [], ◌∷◌, ◌++◌, map, Option, Some, None, Ok, Err, ◌⊎◌, inl, inr, refl, ap, sym, ◌∙◌, subst, arith, if◌then◌else◌}
+use Rattle.std.proofs.Common.{◌≡◌, ℕ, zero, suc, ◌+◌, ◌*◌, ◌<◌, ◌≤◌, Bool, true, false, ◌==◌, List, [], ◌∷◌, ◌++◌, map, Option, Some, None, Ok, Err, ◌⊎◌, inl, inr, refl, ap, sym, ◌∙◌, arith, if◌then◌else◌}
 use Rattle.std.specs.List.{flat_map, range_with_len}
 use Rattle.apfs_model.specs.Apart.{Apart}
-use Rattle.apfs_model.specs.Lists.{In, through}
+use Rattle.apfs_model.specs.Lists.{through}
 use Rattle.apfs_model.proofs.Finite.{apart-filter, apart-range}
-use Rattle.apfs_model.proofs.Searches.{from-map}
 use Rattle.bt_node.specs.Entries.{Pair, bytes_in}
 use Rattle.bt_node.specs.Node.{level_of}
 use Rattle.nx_block.specs.Super.{space_oid_of, omap_oid_of, reaper_oid_of, jumpstart_of, fs_oid_of, slots}
@@ -34,16 +33,10 @@ use Rattle.reach_rules.specs.Resolved.{Found, resolved}
 use Rattle.reach_rules.specs.Tested.{Answer, tested}
 use Rattle.reach_rules.specs.Next.{roots, names, names_if, next, unless_zero, slot_namings, map_namings, live_view, past_view, view_namings, record_namings, snapshot_namings, snapshots_namings, records_of_snapshots, address_naming, addresses_in, address_namings, manager_namings, is_cib_of, cib_naming, cibs_in, cab_namings, children_in, child_namings, node_namings, volume_namings}
 use Rattle.reach_rules.proofs.Nexts.{Each, each-in, each-append, each-map, each-flat, each-if, each-unless, each-through}
-use Rattle.reach_sweep.proofs.Swept.{apart-append, slots-apart}
+use Rattle.reach_gather.proofs.Finishes.{apart-append, apart_map}
+use Rattle.reach_sweep.proofs.Swept.{slots-apart}
 
 -- ---- lists without repeats
-pub apart-map : {X Y : Type 0} (f : X → Y) (xs : List X) → ((x y : X) → f x ≡ f y → x ≡ y) → Apart xs → Apart (map f xs)
-apart-map f [] one a = tt
-apart-map {X} f (x ∷ xs) one a = (
-  (λ h. let t = from-map f xs (f x) h in a.0 (subst (λ (y : X). In y xs) (sym (one x t.0 t.1.1)) t.1.0)),
-  apart-map f xs one a.1,
-)
-
 apart-if : {X : Type 0} (b : Bool) (xs ys : List X) → Apart xs → Apart ys → Apart (if b then xs else ys)
 apart-if true xs ys a c = a
 apart-if false xs ys a c = c
@@ -221,8 +214,8 @@ cib-inj me manager cab i j e = let z : InfoBlock i ≡ InfoBlock j = ap (λ (n :
 address-apart : (me : Namer) (manager : List ℕ) → Apart (address_namings me manager)
 address-apart me manager =
     apart-if (cabs_of manager == 0) (map (address_naming InfoBlock me manager) (addresses_in manager (cibs_of manager))) (map (address_naming AddressBlock me manager) (addresses_in manager (cabs_of manager)))
-    (apart-map (address_naming InfoBlock me manager) (addresses_in manager (cibs_of manager)) (own-inj me manager) (apart-filter (has_address manager) (range_with_len 0 (cibs_of manager)) (apart-range 0 (cibs_of manager))))
-    (apart-map (address_naming AddressBlock me manager) (addresses_in manager (cabs_of manager)) (address-inj me manager) (apart-filter (has_address manager) (range_with_len 0 (cabs_of manager)) (apart-range 0 (cabs_of manager))))
+    (apart_map (address_naming InfoBlock me manager) (own-inj me manager) (addresses_in manager (cibs_of manager)) (apart-filter (has_address manager) (range_with_len 0 (cibs_of manager)) (apart-range 0 (cibs_of manager))))
+    (apart_map (address_naming AddressBlock me manager) (address-inj me manager) (addresses_in manager (cabs_of manager)) (apart-filter (has_address manager) (range_with_len 0 (cabs_of manager)) (apart-range 0 (cabs_of manager))))
 
 -- what holds of all that the manager's addresses name
 pub each-address : (P : Naming → Type 0) (me : Namer) (manager : List ℕ) → ((i : ℕ) → P (address_naming InfoBlock me manager i)) → ((i : ℕ) → P (address_naming AddressBlock me manager i)) → Each P (address_namings me manager)
@@ -246,7 +239,7 @@ manager-apart me manager =
     (each-address (Isnt me (TreeRoot (FreeQueue Pool))) me manager (λ i s t. cc) (λ i s t. cc)))
 
 cab-apart : (block_size : ℕ) (me : Namer) (manager : List ℕ) (i : ℕ) (cab : List ℕ) → Apart (cab_namings block_size me manager i cab)
-cab-apart block_size me manager i cab = apart-map (cib_naming me manager cab) (cibs_in block_size manager i) (cib-inj me manager cab) (apart-filter (is_cib_of block_size manager i) (range_with_len 0 (cibs_of manager)) (apart-range 0 (cibs_of manager)))
+cab-apart block_size me manager i cab = apart_map (cib_naming me manager cab) (cib-inj me manager cab) (cibs_in block_size manager i) (apart-filter (is_cib_of block_size manager i) (range_with_len 0 (cibs_of manager)) (apart-range 0 (cibs_of manager)))
 
 through-apart : {X Y : Type 0} (o : Option X) (f : X → List Y) → ((x : X) → Apart (f x)) → Apart (through o f)
 through-apart None f a = tt

@@ -1,11 +1,12 @@
 -- The owners of the pool lie in the pool.
-use Rattle.std.proofs.Common.{◌≡◌, ℕ, zero, suc, ◌+◌, ◌*◌, ◌/◌, ◌%◌, ◌<◌, Bool, true, false, ◌&&◌, ◌==◌, nat_lt, List, [], ◌∷◌, ◌++◌, map, Option, Some, None, Ok, Err, inl, inr, refl, ap, sym, ◌∙◌, subst, arith, if◌then◌else◌}
+use Rattle.std.proofs.Common.{◌≡◌, ℕ, zero, suc, ◌+◌, ◌*◌, ◌/◌, ◌%◌, ◌<◌, Bool, true, false, ◌&&◌, ◌==◌, nat_lt, List, [], ◌∷◌, ◌++◌, map, Option, Some, None, Ok, Err, inl, inr, refl, ap, sym, ◌∙◌, subst, arith, if◌then◌else◌, ◌⊎◌}
 use Rattle.std.specs.Prelude.{nat_le}
 use Rattle.std.specs.List.{flat_map, range_with_len}
 use Rattle.apfs_model.specs.Blocks.{block_of, is_in, is_within}
 use Rattle.apfs_model.specs.Lists.{In, through}
 use Rattle.apfs_model.proofs.BoolTests.{left-true, right-true, both-true, other-true, not-true, below-from, from-upto, equal-from, from-range}
 use Rattle.apfs_model.proofs.Searches.{in-append, from-map, from-filter, filter-test}
+use Rattle.apfs_model.proofs.Greatest.{some-value}
 use Rattle.bt_node.specs.Entries.{Pair, bytes_in}
 use Rattle.bt_node.specs.Node.{level_of}
 use Rattle.nx_block.specs.Super.{space_oid_of, reaper_oid_of, jumpstart_of, fs_oid_of, slots}
@@ -15,8 +16,8 @@ use Rattle.omap_map.specs.Fields as maps
 use Rattle.vol_view.specs.Fields as volumes
 use Rattle.vol_view.specs.SnapRecords.{is_snapshot_long, snap_extents_of}
 use Rattle.space_map.specs.Fields.{cabs_of, cibs_of, cab_cibs_of, cib_chunks_of, chunks_of, pool_base_of, pool_blocks_of, pool_queue_of, main_queue_of}
-use Rattle.space_map.specs.Geometry.{has_address, has_cib_place, has_chunk_place}
-use Rattle.space_map.specs.Blocks.{address_at, cab_address_at, cab_block_for, cib_block}
+use Rattle.space_map.specs.Geometry.{has_cib_place, has_chunk_place}
+use Rattle.space_map.specs.Blocks.{address_at, cab_address_at, cib_block}
 use Rattle.space_map.specs.Chunks.{chunk_in, chunk_at}
 use Rattle.space_map.specs.Tests.{is_in_pool}
 use Rattle.space_map.specs.Stops.{HasManager, is_bitmap_placed, IsRightSpace}
@@ -38,7 +39,7 @@ use Rattle.reach_rules.specs.declared.naming.Expected.TheVariants.{SpaceManager,
 use Rattle.reach_rules.specs.declared.naming.Naming.{Naming}
 use Rattle.reach_rules.specs.Resolved.{Found, resolved, standing, found_by}
 use Rattle.reach_rules.specs.Tested.{Answer, tested}
-use Rattle.reach_rules.specs.Next.{roots, names, unless_zero, slot_namings, map_namings, live_view, past_view, view_namings, record_namings, snapshot_namings, snapshots_namings, records_of_snapshots, address_naming, addresses_in, address_namings, manager_namings, is_cib_of, cib_naming, cibs_in, cab_namings, children_in, child_namings, node_namings, volume_namings}
+use Rattle.reach_rules.specs.Next.{roots, names, unless_zero, slot_namings, map_namings, live_view, past_view, view_namings, record_namings, snapshot_namings, snapshots_namings, records_of_snapshots, address_namings, manager_namings, is_cib_of, cib_naming, cibs_in, cab_namings, children_in, child_namings, node_namings, volume_namings}
 use Rattle.reach_rules.specs.Live.{rooted, led, IsLive}
 use Rattle.reach_rules.specs.declared.owner.Who.TheVariants.{Named}
 use Rattle.reach_rules.specs.declared.owner.Owner.{Owner}
@@ -47,8 +48,10 @@ use Rattle.reach_rules.specs.PoolOwners.{pool_object_owners, is_chunk_of, has_bi
 use Rattle.reach_rules.specs.Reached.{range_of}
 use Rattle.reach_rules.proofs.Nexts.{Each, each-in, each-append, each-if, each-flat, each-unless, from-next}
 use Rattle.reach_rules.proofs.Looks.{standing-by}
-use Rattle.reach_rules.proofs.SpaceLifted.{there, manager-sound}
+use Rattle.reach_rules.proofs.SpaceLifted.{there, manager-sound, own-block, other-block}
 use Rattle.reach_gather.specs.Pooled.{ArePooled}
+use Rattle.reach_gather.proofs.Chunked.{chunk-there}
+use Rattle.reach_gather.proofs.SpacePart.{IsInfoAt, IsAddressAt, from-addresses}
 use Rattle.reach_sweep.specs.Composed.{ArePlacedBy}
 
 -- ---- where live namings stand
@@ -141,39 +144,13 @@ volume-right image seen manager slot me bytes =
           (snapshot-right image seen manager slot bytes 0 (records_of_snapshots image (site_of seen) bytes)))),
     )
 
--- where the addresses of chunk-info blocks are
-own-block : (B : ℕ) (image manager : List ℕ) (i : ℕ) → (cabs_of manager == 0) ≡ true → cib_block B image manager i ≡ address_at manager i
-unfolding cib_block
-own-block B image manager i e = ap (λ (b : Bool). if b then address_at manager i else cab_address_at (block_of B image (cab_block_for manager i)) (i % cab_cibs_of manager)) e
-
-other-block : (B : ℕ) (image manager : List ℕ) (i : ℕ) → (cabs_of manager == 0) ≡ false → cib_block B image manager i ≡ cab_address_at (block_of B image (cab_block_for manager i)) (i % cab_cibs_of manager)
-unfolding cib_block
-other-block B image manager i e = ap (λ (b : Bool). if b then address_at manager i else cab_address_at (block_of B image (cab_block_for manager i)) (i % cab_cibs_of manager)) e
-
-own-right : (image : List ℕ) (seen : Seen) (manager : List ℕ) (me : Namer) → (cabs_of manager == 0) ≡ true → (n : Naming) → In n (map (address_naming InfoBlock me manager) (addresses_in manager (cibs_of manager))) → IsRightAt image seen manager n
-own-right image seen manager me none n h =
-    let t = from-map (address_naming InfoBlock me manager) (addresses_in manager (cibs_of manager)) n h in
-    let i : ℕ = t.0 in
-    let l : i < 0 + cibs_of manager = from-range 0 (cibs_of manager) i (from-filter (has_address manager) i (range_with_len 0 (cibs_of manager)) t.1.0) in
-    subst (IsRightAt image seen manager) (sym t.1.1) (record { by = refl; low = omega (arith, l); at = sym (own-block (site_of seen).block_size image manager i none) })
-
-cab-right : (image : List ℕ) (seen : Seen) (manager : List ℕ) (me : Namer) → (cabs_of manager == 0) ≡ false → (n : Naming) → In n (map (address_naming AddressBlock me manager) (addresses_in manager (cabs_of manager))) → IsRightAt image seen manager n
-cab-right image seen manager me some n h =
-    let t = from-map (address_naming AddressBlock me manager) (addresses_in manager (cabs_of manager)) n h in
-    let i : ℕ = t.0 in
-    let l : i < 0 + cabs_of manager = from-range 0 (cabs_of manager) i (from-filter (has_address manager) i (range_with_len 0 (cabs_of manager)) t.1.0) in
-    subst (IsRightAt image seen manager) (sym t.1.1) (record { by = refl; some = some; low = omega (arith, l); at = refl })
+-- what the manager's addresses name
+named-right : (image : List ℕ) (seen : Seen) (manager : List ℕ) (me : Namer) (n : Naming) → IsInfoAt manager me n ⊎ IsAddressAt manager me n → IsRightAt image seen manager n
+named-right image seen manager me n (inl (none, a)) = subst (IsRightAt image seen manager) (sym a.is) (record { by = refl; low = a.low; at = sym (own-block (site_of seen).block_size image manager a.index none) })
+named-right image seen manager me n (inr (some, a)) = subst (IsRightAt image seen manager) (sym a.is) (record { by = refl; some = some; low = a.low; at = refl })
 
 address-right : (image : List ℕ) (seen : Seen) (manager : List ℕ) (me : Namer) → Each (IsRightAt image seen manager) (address_namings me manager)
-address-right image seen manager me =
-    let P : Naming → Type 0 = IsRightAt image seen manager in
-    let infos : List Naming = map (address_naming InfoBlock me manager) (addresses_in manager (cibs_of manager)) in
-    let cabs : List Naming = map (address_naming AddressBlock me manager) (addresses_in manager (cabs_of manager)) in
-    let go : (b : Bool) → (cabs_of manager == 0) ≡ b → Each P (if b then infos else cabs) = λ b. elim b as (λ b. (cabs_of manager == 0) ≡ b → Each P (if b then infos else cabs)) [
-      | true ↦ λ e. each-all P infos (own-right image seen manager me e)
-      | false ↦ λ e. each-all P cabs (cab-right image seen manager me e)
-    ] in
-    go (cabs_of manager == 0) refl
+address-right image seen manager me = each-all (IsRightAt image seen manager) (address_namings me manager) (λ n h. named-right image seen manager me n (from-addresses manager me n h))
 
 manager-right : (image : List ℕ) (seen : Seen) (manager : List ℕ) (me : Namer) → Each (IsRightAt image seen manager) (manager_namings me manager)
 manager-right image seen manager me =
@@ -185,16 +162,13 @@ manager-right image seen manager me =
     (address-right image seen manager me))
 
 -- the manager that is found is the one that is there
-one-found : (f g : Found) → Some f ≡ Some g → f ≡ g
-one-found f g e = cc
-
 manager-bytes : (image : List ℕ) (seen : Seen) (manager : List ℕ) (block : ℕ) → HasManager seen manager block → (how : LookUp) (oid : ℕ) (f : Found) → IsManagerAt seen how oid → found_by image seen how SpaceManager oid ≡ Some f → f.bytes ≡ manager
 unfolding resolved there
 manager-bytes image seen manager block has how oid f at h =
     let s = manager-sound image seen manager block has in
     let by : found_by image seen ByMapping SpaceManager oid ≡ Some f = subst (λ x. found_by image seen x SpaceManager oid ≡ Some f) at.by h in
     let here : found_by image seen ByMapping SpaceManager (space_oid_of seen.nx) ≡ Some f = subst (λ x. found_by image seen ByMapping SpaceManager x ≡ Some f) at.at by in
-    ap (λ (x : Found). x.bytes) (one-found f (there seen manager block) (sym here ∙ s.names.found))
+    ap (λ (x : Found). x.bytes) (some-value f (there seen manager block) (sym here ∙ s.names.found))
 
 -- what is found by a block stands in it
 pub block-stands : (image : List ℕ) (seen : Seen) (how : LookUp) (e : Expected) (oid : ℕ) (f : Found) → how ≡ ByBlock → found_by image seen how e oid ≡ Some f → f ≡ standing image (site_of seen) (InBlock oid) oid
@@ -320,10 +294,6 @@ object-pooled image seen manager right n (TreeRoot kind) f a is h at k = absurd 
 object-pooled image seen manager right n (TreeNode kind level) f a is h at k = absurd (object-none n f.object a (telling n (TreeNode kind level) is refl) k)
 
 -- the bitmap of a chunk
-chunk-there : (B : ℕ) (image manager : List ℕ) (c k : ℕ) → k / cib_chunks_of manager ≡ c → chunk_in (block_of B image (cib_block B image manager c)) (k % cib_chunks_of manager) ≡ chunk_at B image manager k
-unfolding chunk_at
-chunk-there B image manager c k e = ap (λ i. chunk_in (block_of B image (cib_block B image manager i)) (k % cib_chunks_of manager)) (sym e)
-
 placed-bitmap : (seen : Seen) (manager : List ℕ) (chunk : Chunk) → (chunk.bitmap == 0) ≡ false → is_bitmap_placed (site_of seen) manager chunk ≡ true → is_in_pool (site_of seen) manager chunk.bitmap ≡ true
 unfolding is_bitmap_placed
 placed-bitmap seen manager chunk some e = other-true (chunk.bitmap == 0) (is_in_pool (site_of seen) manager chunk.bitmap) some e

@@ -1,5 +1,5 @@
 -- The records that are used are those of views, and those by which the volumes are found.
-use Rattle.std.proofs.Common.{◌≡◌, ◌⊎◌, ℕ, List, map, Option, Some, inl, inr, ap, sym, ◌∙◌, subst}
+use Rattle.std.proofs.Common.{◌≡◌, ◌⊎◌, ℕ, List, map, inl, inr, ap, sym, ◌∙◌, subst}
 use Rattle.apfs_model.specs.Lists.{In}
 use Rattle.apfs_model.proofs.Searches.{in-left, in-right, in-append, in-map, from-map}
 use Rattle.nx_block.specs.Super.{omap_oid_of}
@@ -18,6 +18,7 @@ use Rattle.reach_rules.specs.Live.{IsLive, rooted}
 use Rattle.reach_gather.specs.Container.{reaper_naming, jumpstart_naming}
 use Rattle.reach_gather.specs.ViewParts.{record_object, ResolvesTo}
 use Rattle.reach_gather.proofs.ViewParts.{view-live}
+use Rattle.reach_gather.proofs.Slots.{found-one}
 use Rattle.reach_gather.specs.Volumes.Told.{head_naming}
 use Rattle.reach_gather.specs.Volumes.Parts.{IsVolumePart}
 use Rattle.reach_gather.specs.Volumes.Laws.{HasParts}
@@ -41,12 +42,6 @@ head-part image seen heads volumes namer p v head h =
     let there : In volume.head heads = subst (λ (x : VolHead). In x heads) t.1.1 h in
     (volume, subst (λ (x : VolHead). IsVolumePart image seen x volume) (sym t.1.1) (p.volumes volume.head volume there (v.loaded volume t.1.0)))
 
-pub one-found : (o : Option Found) (f g : Found) → o ≡ Some f → o ≡ Some g → f ≡ g
-one-found o f g a b = let z : Some f ≡ Some g = sym a ∙ b in cc
-
-one-record : (o : Option OmapRecord) (r s : OmapRecord) → o ≡ Some r → o ≡ Some s → r ≡ s
-one-record o r s a b = let z : Some r ≡ Some s = sym a ∙ b in cc
-
 same-map : (a b : ℕ) (r s : OmapRecord) → OfRecord a r ≡ OfRecord b s → a ≡ b
 same-map a b r s e = cc
 
@@ -57,7 +52,7 @@ same-record a b r s e = cc
 record-is : (image : List ℕ) (seen : Seen) (head : VolHead) (volume : Loaded) (part : IsVolumePart image seen head volume) (n : Naming) (r : ℕ × OmapRecord) → n ≡ head_naming head → ResolvesTo image seen n r → OfRecord (omap_oid_of seen.nx) part.mapping ≡ record_object r
 record-is image seen head volume part n r same to =
     let f : Found = standing image (site_of seen) (OfRecord (omap_oid_of seen.nx) part.mapping) head.block in
-    let e : f ≡ to.object = one-found (resolved image seen n) f to.object (ap (resolved image seen) same ∙ part.found) to.found in
+    let e : f ≡ to.object = found-one (resolved image seen n) f to.object (ap (resolved image seen) same ∙ part.found) to.found in
     ap (λ (g : Found). g.object) e ∙ to.record_is
 
 pub records-by : (image : List ℕ) (seen : Seen) → AreRecordsBy image seen
@@ -79,7 +74,7 @@ records-by image seen heads volumes namer all views records of_heads p v j hs =
             let b : IsHeadRecord image seen heads r = hs.only r k in
             let n : Naming = head_naming b.head in
             let part = head-part image seen heads volumes namer p v b.head b.one in
-            let record_at : part.1.mapping ≡ r.1 = one-record (resolved_in image (site_of seen) omap b.head.oid seen.line.xid) part.1.mapping r.1 part.1.mapped b.found in
+            let record_at : part.1.mapping ≡ r.1 = found-one (resolved_in image (site_of seen) omap b.head.oid seen.line.xid) part.1.mapping r.1 part.1.mapped b.found in
             let object_is : OfRecord omap part.1.mapping ≡ OfRecord r.0 r.1 = ap (λ a. OfRecord a part.1.mapping) (sym b.map_is) ∙ ap (OfRecord r.0) record_at in
             let to : ResolvesTo image seen n r = record { object = standing image (site_of seen) (OfRecord omap part.1.mapping) b.head.block; found = part.1.found; record_is = object_is } in
             let there : In n all = elim (j.part.split n (heads-live image seen heads n p (in-map head_naming heads b.head b.one))) as (λ _. In n all) [

@@ -9,6 +9,7 @@ use Rattle.apfs_model.specs.Apart.{Apart}
 use Rattle.apfs_model.specs.Lists.{In, through}
 use Rattle.apfs_model.proofs.Finite.{apart-range}
 use Rattle.apfs_model.proofs.Searches.{in-append, in-map, get-in, in-get, from-map, from-flat_map}
+use Rattle.apfs_model.proofs.Greatest.{some-value}
 use Rattle.fs_name.specs.Normal.{are_hashed}
 use Rattle.nx_block.specs.Super.{fs_oid_of, slots}
 use Rattle.nx_ring.specs.Checkpoint.{Seen, site_of}
@@ -30,6 +31,8 @@ use Rattle.reach_gather.specs.Container.{all_views}
 use Rattle.reach_gather.specs.Volumes.Told.{head_naming, map_of, live_at, past_at, told_view}
 use Rattle.reach_gather.specs.Volumes.Laws.{HasParts}
 use Rattle.reach_gather.proofs.VolumeLemmas.Tellings.{map-is}
+use Rattle.reach_gather.proofs.VolumeLemmas.Law.{same-slot}
+use Rattle.reach_gather.proofs.Finishes.{apart-append}
 use Rattle.view_sweep.specs.declared.wanted.SweptView.{SweptView}
 use Rattle.view_sweep.specs.declared.wanted.Head.{Head}
 use Rattle.view_sweep.specs.Wanted.{view_at, head_wants, heads_want, naming_of, AreToldHeads, AreBelowHeads}
@@ -37,7 +40,7 @@ use Rattle.view_sweep.specs.Found.{records_at}
 use Rattle.view_sweep.specs.Named.{head_namings, AreOfImage}
 use Rattle.reach_gather.specs.Views.{pasts_namings, volume_views}
 use Rattle.reach_sweep.specs.Views.{head_of, slot_of, slots_of, AreVolumes, volumes_views, swept_view, live_head, past_head, past_heads, volume_heads, heads_from, swept_heads, found_namer, past_namer, view_namer, supers_of, ViewsAre}
-use Rattle.reach_sweep.proofs.Views.{slot-expected, same-slot, views-loaded}
+use Rattle.reach_sweep.proofs.Views.{slot-expected, views-loaded}
 
 -- ---- what the head of a view names
 abbrev told_by : (SweptView → Namer) → Head → List Naming
@@ -159,13 +162,6 @@ all-swept : (seen : Seen) (volumes : List Loaded) (h : Head) → In h (swept_hea
 all-swept seen volumes h m = heads-swept seen volumes 0 volumes (stands-first volumes) h m
 
 -- ---- no two volumes are of one slot
-pub apart-append : {X : Type 0} (xs ys : List X) → Apart xs → Apart ys → ((x : X) → In x xs → In x ys → ⊥) → Apart (xs ++ ys)
-apart-append [] ys a b n = b
-apart-append (x ∷ xs) ys a b n = (
-  (λ h. elim (in-append x xs ys h) as (λ _. ⊥) [ inl k ↦ a.0 k | inr k ↦ n x (inl refl) k ]),
-  apart-append xs ys a.1 b (λ y h k. n y (inr h) k),
-)
-
 slot-apart : (nx : List ℕ) (slot : ℕ) → Apart (slot_namings nx slot)
 slot-apart nx slot = elim (fs_oid_of nx slot == 0) as (λ b. Apart (if b then [] else naming (Whole Newest) (184 + 8 * slot) (VolumeIn slot) InContainer (fs_oid_of nx slot) ∷ [])) [ true ↦ tt | false ↦ ((λ h. h), tt) ]
 
@@ -216,16 +212,13 @@ slot-places image seen heads volumes p e i j v w a b same =
     let at : (k : ℕ) (u : Loaded) → slice_get volumes k ≡ Some u → slice_get ns k ≡ Some (volume_naming u) = λ k u h. slice_get-map volume_naming volumes k ∙ ap (option_map volume_naming) h in
     apart-place ns apart i j (volume_naming w) (at i v a ∙ ap Some one) (at j w b)
 
-some-one : {X : Type 0} (x y : X) → Some x ≡ Some y → x ≡ y
-some-one x y e = cc
-
 -- so each view is told by its slot and its place
 told-by : (seen : Seen) (volumes : List Loaded) → ((i j : ℕ) (v w : Loaded) → slice_get volumes i ≡ Some v → slice_get volumes j ≡ Some w → v.head.slot ≡ w.head.slot → i ≡ j) → AreToldHeads (swept_heads seen volumes)
 told-by seen volumes places a b h k slot place =
     let s = all-swept seen volumes a h in
     let t = all-swept seen volumes b k in
     let i_is : s.i ≡ t.i = places s.i t.i s.volume t.volume s.at t.at (sym s.slot_is ∙ (slot ∙ t.slot_is)) in
-    let volume_is : s.volume ≡ t.volume = some-one s.volume t.volume (sym s.at ∙ (ap (slice_get volumes) i_is ∙ t.at)) in
+    let volume_is : s.volume ≡ t.volume = some-value s.volume t.volume (sym s.at ∙ (ap (slice_get volumes) i_is ∙ t.at)) in
     s.view_is
     ∙ (ap (λ i. swept_at seen i s.volume a.view.place) i_is
     ∙ (ap (λ x. swept_at seen t.i x a.view.place) volume_is

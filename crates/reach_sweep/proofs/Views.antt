@@ -29,6 +29,7 @@ use Rattle.reach_gather.specs.Volumes.Told.{head_naming, live_at, told_view}
 use Rattle.reach_gather.specs.Volumes.Parts.{volume_namer, IsVolumePart}
 use Rattle.reach_gather.specs.Volumes.Laws.{HasParts}
 use Rattle.reach_gather.proofs.VolumeLemmas.Tellings.{long-snapshots, map-is}
+use Rattle.reach_gather.proofs.VolumeLemmas.Law.{same-slot}
 use Rattle.reach_gather.specs.Views.{pasts_namings, volume_views}
 use Rattle.reach_sweep.specs.Views.{head_of, AreVolumes, volumes_views}
 
@@ -85,9 +86,6 @@ slot-expected nx slot m h =
       | false ↦ λ k. elim k as (λ _. m.expected ≡ VolumeIn slot) [ inl e ↦ ap (λ (x : Naming). x.expected) e | inr z ↦ absurd z ]
     ] in
     go (fs_oid_of nx slot == 0) h
-
-pub same-slot : (a b : ℕ) → VolumeIn a ≡ VolumeIn b → a ≡ b
-same-slot a b e = cc
 
 -- what the views of one of the volumes name, by the object of its superblock
 record IsNamedBy (image : List ℕ) (seen : Seen) (volumes : List Loaded) (n : Naming) : Type 0 where
