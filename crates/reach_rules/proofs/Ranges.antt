@@ -8,27 +8,19 @@ use Rattle.reach_rules.specs.Owners.{Owner, covers}
 use Rattle.apfs_model.specs.Apart.{Apart}
 use Rattle.reach_rules.specs.Reached.{HasBlocks, range_of, AreRangesOf}
 use Rattle.reach_rules.specs.Settled.{has_block, is_held, is_held_at, IsHeldTwice, AreApart}
-use Rattle.apfs_model.proofs.BoolTests.{test_or, clash, left-true, right-true, below-from, upto-from, equal-from}
-use Rattle.apfs_model.proofs.Searches.{in-map, from-map, in-get, get-in}
+use Rattle.apfs_model.proofs.BoolTests.{test_or, left-true, right-true, below-from, upto-from, equal-from, either-from}
+use Rattle.apfs_model.proofs.Searches.{in-map, from-map, in-get, get-in, any-passes}
 
 -- some item passes
 any-in : {X : Type 0} (test : X → Bool) (xs : List X) (x : X) → In x xs → test x ≡ true → list_any test xs ≡ true
-any-in test [] x h t = absurd h
-any-in test (y ∷ ys) x h t =
-    let go : (b : Bool) → test y ≡ b → (b ≡ false → list_any test ys ≡ true) → list_any test (y ∷ ys) ≡ true = λ b. elim b as (λ b. test y ≡ b → (b ≡ false → list_any test ys ≡ true) → list_any test (y ∷ ys) ≡ true) [
-      | true ↦ λ e _. cc
-      | false ↦ λ e more. let m = more refl in cc
-    ] in
-    go (test y) refl (λ f. elim h as (λ _. list_any test ys ≡ true) [ inl e ↦ clash (test y) (subst (λ w. test w ≡ true) e t) f | inr k ↦ any-in test ys x k t ])
+any-in test xs x h t = let i = in-get xs x h in any-passes test xs i.0 (ap (λ o. passes o test) i.1 ∙ t)
 
 in-any : {X : Type 0} (test : X → Bool) (xs : List X) → list_any test xs ≡ true → (x : X) × (In x xs × (test x ≡ true))
 in-any test [] e = absurd (let z : false ≡ true = e in let q : ⊥ = cc in q)
-in-any {X} test (y ∷ ys) e =
-    let go : (b : Bool) → test y ≡ b → (x : X) × (In x (y ∷ ys) × (test x ≡ true)) = λ b. elim b as (λ b. test y ≡ b → (x : X) × (In x (y ∷ ys) × (test x ≡ true))) [
-      | true ↦ λ t. (y, (inl refl, t))
-      | false ↦ λ f. let rest : list_any test ys ≡ true = cc in let t = in-any test ys rest in (t.0, (inr t.1.0, t.1.1))
-    ] in
-    go (test y) refl
+in-any {X} test (y ∷ ys) e = elim (either-from (test y) (list_any test ys) e) as (λ _. (x : X) × (In x (y ∷ ys) × (test x ≡ true))) [
+  | inl t ↦ (y, (inl refl, t))
+  | inr r ↦ let t = in-any test ys r in (t.0, (inr t.1.0, t.1.1))
+]
 
 -- a block of an owner makes it one of a block or more
 covers-some : (a : Owner) (block : ℕ) → covers a block ≡ true → (a.blocks == 0) ≡ false
