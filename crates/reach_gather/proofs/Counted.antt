@@ -8,7 +8,7 @@ use Rattle.apfs_model.specs.Lists.{In, Lists}
 use Rattle.apfs_model.proofs.Finite.{apart-length, apart-filter}
 use Rattle.apfs_model.proofs.Searches.{in-left, in-right, in-flat_map, in-filter, from-filter, filter-test}
 use Rattle.reach_rules.specs.Live.{Live, rooted, led}
-use Rattle.reach_gather.proofs.Lists.{lists-none, lists-both, lists-by}
+use Rattle.reach_rules.proofs.Lives.{lists-none, lists-both, lists-by}
 
 -- of each kind of thing, these and a rest have no more than the first ones and all those to which these lead
 abbrev pub CountsBy : {N : Type 0} → (N → List N) → List N → List N → List N → Type 0

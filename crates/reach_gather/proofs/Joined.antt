@@ -12,7 +12,7 @@ use Rattle.reach_rules.specs.declared.naming.Naming.{Naming}
 use Rattle.reach_rules.specs.Naming.{naming}
 use Rattle.reach_rules.specs.Next.{next, unless_zero}
 use Rattle.reach_rules.specs.Live.{Live, rooted, led}
-use Rattle.reach_rules.proofs.Lives.{live-left, live-right, live-append, live-unroll, live-roll, live-none}
+use Rattle.reach_rules.proofs.Lives.{live-left, live-right, live-append, live-none, live-next, from-next-live}
 use Rattle.reach_gather.specs.Namings.{IsPlainNaming, AreCounted, AreNamingsOf}
 use Rattle.reach_gather.specs.Joined.{AreAllOf, ArePart, HaveSame, PartsJoin}
 use Rattle.reach_gather.proofs.Counted.{counts-none, counts-left, counts-join, counts-step, counts-chain, counts-apart}
@@ -48,16 +48,6 @@ part-join image seen ns ms xs ys rs ss a b =
       plain = λ n h. elim (in-append n xs ys h) as (λ _. IsPlainNaming image seen n) [ inl k ↦ a.plain n k | inr k ↦ b.plain n k ];
       counted = counts-join leads ns ms xs ys rs ss a.counted b.counted;
     }
-
--- what is live from one thing is it, or live from those to which it leads
-live-next : {N : Type 0} (leads : N → List N) (n m : N) → Live (n ∷ []) leads m → (m ≡ n) ⊎ Live (leads n) leads m
-live-next leads n m live = elim (live-unroll leads (n ∷ []) m live) as (λ _. (m ≡ n) ⊎ Live (leads n) leads m) [
-  | inl h ↦ elim h as (λ _. (m ≡ n) ⊎ Live (leads n) leads m) [ inl e ↦ inl e | inr k ↦ absurd k ]
-  | inr l ↦ elim (live-append leads (leads n) [] m l) as (λ _. (m ≡ n) ⊎ Live (leads n) leads m) [ inl k ↦ inr k | inr k ↦ absurd (live-none leads m k) ]
-]
-
-from-next-live : {N : Type 0} (leads : N → List N) (n m : N) → Live (leads n) leads m → Live (n ∷ []) leads m
-from-next-live leads n m live = live-roll leads (n ∷ []) m (live-left leads (leads n) [] m live)
 
 pub part-step : (image : List ℕ) (seen : Seen) (n : Naming) (xs rs : List Naming) → IsPlainNaming image seen n → ArePart image seen (next image seen n) xs rs → ArePart image seen (n ∷ []) (n ∷ xs) rs
 part-step image seen n xs rs p a =

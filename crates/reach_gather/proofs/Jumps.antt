@@ -37,7 +37,7 @@ use Rattle.reach_rules.specs.Features.{HasFeature}
 use Rattle.reach_rules.specs.Reached.{IsReachedFault}
 use Rattle.reach_rules.proofs.Nexts.{in-unless}
 use Rattle.reach_rules.proofs.Sounds.{cab-bytes}
-use Rattle.reach_gather.proofs.Lists.{lists-none}
+use Rattle.reach_rules.proofs.Lives.{lists-none}
 use Rattle.reach_gather.specs.Namings.{IsPlainNaming}
 use Rattle.apfs_model.proofs.Searches.{in-left, in-right}
 use Rattle.reach_gather.specs.Told.{judged, told, unsound, told_through}

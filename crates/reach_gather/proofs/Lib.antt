@@ -21,7 +21,6 @@ pub mod Finishes
 pub mod Rising
 pub mod Onces
 pub mod Counts
-pub mod Lists
 pub mod Counted
 pub mod Law
 pub mod Plain

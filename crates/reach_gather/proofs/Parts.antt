@@ -17,8 +17,8 @@ use Rattle.reach_rules.specs.Tested.{Answer, tested}
 use Rattle.reach_rules.specs.Next.{names, next, unless_zero, map_namings, cab_namings, cib_naming, cibs_in}
 use Rattle.reach_rules.specs.Live.{Live, IsSoundFor}
 use Rattle.reach_rules.proofs.Nexts.{Each, each-in, each-unless, each-map, each-through, from-next}
+use Rattle.reach_rules.proofs.Lives.{lists-none, lists-both, lists-by}
 use Rattle.reach_gather.specs.Parts.{physical_namings, records_naming, ExpectsMap, AreOfMap, IsAlone, NamingsOfParts}
-use Rattle.reach_gather.proofs.Lists.{lists-none, lists-both, lists-by}
 use Rattle.reach_gather.proofs.Law.{next-some}
 use Rattle.reach_gather.proofs.OfKinds.{of-steps}
 
