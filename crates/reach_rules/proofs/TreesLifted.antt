@@ -30,7 +30,6 @@ use Rattle.ext_ref.specs.Ranges.{ext_tree}
 use Rattle.ext_ref.specs.Stops.{is_short_item, IsExtStop}
 use Rattle.ext_ref.specs.declared.stop.ExtStop.{ExtStop}
 use Rattle.ext_ref.specs.declared.stop.ExtStop.TheVariants as exts
-use Rattle.reach_rules.specs.Next.{names}
 use Rattle.reach_rules.specs.Faults.{Present}
 use Rattle.reach_rules.specs.Raised.{of_walk, of_extents}
 use Rattle.apfs_model.proofs.Searches.{passing-below}
