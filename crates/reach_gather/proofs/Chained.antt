@@ -5,7 +5,6 @@ use Rattle.apfs_model.specs.Lists.{In}
 use Rattle.apfs_model.proofs.BoolTests.{never-true, false-not, from-equal, equal-from}
 use Rattle.apfs_model.specs.Object.{reaper_kind, reap_list_kind}
 use Rattle.obj_base.specs.Features.{with_feature}
-use Rattle.obj_base.specs.declared.stop.Bad.TheVariants.{Unsupported}
 use Rattle.obj_base.specs.declared.stop.Feature.TheVariants.{Reaper}
 use Rattle.obj_base.specs.Stops.{Tells, IsFree}
 use Rattle.obj_base.specs.declared.stop.Stop.{Stop}

@@ -1,5 +1,5 @@
 -- The objects that are counted, and the owners whose ranges are given, are those that are gathered.
-use Rattle.std.proofs.Common.{◌≡◌, ℕ, Bool, true, false, List, [], map, Option, Some, None, inl, inr, refl, ap, sym, ◌∙◌, subst, if◌then◌else◌}
+use Rattle.std.proofs.Common.{◌≡◌, ℕ, Bool, true, false, List, map, Option, Some, None, inl, inr, refl, ap, sym, ◌∙◌, subst, if◌then◌else◌}
 use Rattle.std.specs.Prelude.{flat_map, option_map, option_and_then}
 use Rattle.apfs_model.specs.Blocks.{in_container}
 use Rattle.apfs_model.specs.Lists.{In}

@@ -6,8 +6,6 @@ use Rattle.apfs_model.specs.Lists.{In, through}
 use Rattle.bt_node.specs.Entries.{Pair, bytes_in}
 use Rattle.nx_block.specs.Super.{space_oid_of, omap_oid_of, reaper_oid_of, jumpstart_of, slots}
 use Rattle.nx_ring.specs.Checkpoint.{Seen, site_of}
-use Rattle.omap_map.specs.Fields as maps
-use Rattle.vol_view.specs.Fields as volumes
 use Rattle.vol_view.specs.SnapRecords.{snap_super_of, is_snapshot_long}
 use Rattle.space_map.specs.Fields.{pool_queue_of, main_queue_of}
 use Rattle.space_pool.specs.declared.entry.Queue.TheVariants.{Pool, Main}
@@ -22,7 +20,7 @@ use Rattle.reach_rules.specs.declared.naming.Expected.TheVariants.{SpaceManager,
 use Rattle.reach_rules.specs.declared.naming.Naming.{Naming}
 use Rattle.reach_rules.specs.Naming.{naming}
 use Rattle.reach_rules.specs.Resolved.{Found, resolved, standing}
-use Rattle.reach_rules.specs.Next.{roots, names, next, unless_zero, slot_namings, live_view, past_view, view_namings, records_of_snapshots, address_namings}
+use Rattle.reach_rules.specs.Next.{names, next, unless_zero, slot_namings, live_view, past_view, view_namings, records_of_snapshots, address_namings}
 use Rattle.reach_rules.specs.Live.{IsSoundFor}
 use Rattle.reach_rules.specs.Features.{used_features, field_features}
 use Rattle.reach_gather.specs.Namings.{IsPlainNaming}
