@@ -1,5 +1,5 @@
 -- Which live namings expect the volume of a slot or a block that tells of chunks: one of each. And in which maps ids are looked up.
-use Rattle.std.proofs.Common.{◌≡◌, ℕ, zero, suc, ◌+◌, ◌*◌, ◌/◌, Bool, true, false, ◌==◌, List, [], ◌∷◌, ◌++◌, map, Option, Some, inl, refl, ap, sym, ◌∙◌, subst, if◌then◌else◌, ◌⊎◌, inr}
+use Rattle.std.proofs.Common.{◌≡◌, ℕ, zero, suc, ◌+◌, ◌*◌, ◌/◌, Bool, true, false, ◌==◌, List, [], ◌∷◌, ◌++◌, Option, Some, inl, refl, ap, sym, ◌∙◌, subst, if◌then◌else◌, ◌⊎◌, inr}
 use Rattle.std.specs.List.{flat_map, range_with_len}
 use Rattle.apfs_model.specs.Blocks.{block_of}
 use Rattle.apfs_model.specs.Lists.{In, through}
