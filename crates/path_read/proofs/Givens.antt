@@ -6,7 +6,7 @@ use Rattle.apfs_model.specs.Lists.{and_then}
 use Rattle.apfs_model.specs.Sink.{WrotePart}
 use Rattle.obj_base.specs.declared.site.Site.{Site}
 use Rattle.obj_base.specs.declared.stop.Stop.{Stop}
-use Rattle.obj_base.specs.declared.stop.Stop.TheVariants.{Found, Unsupported, ReadFault, NoMemory}
+use Rattle.obj_base.specs.declared.stop.Stop.TheVariants.{Found, ReadFault}
 use Rattle.fs_record.specs.Inodes.{Inode}
 use Rattle.fs_record.specs.declared.inode_view.StreamSize.{StreamSize}
 use Rattle.vol_view.specs.Volumes.{Loaded}
@@ -53,10 +53,8 @@ none-put old text held told = ([], text, refl, told ∙ ap (λ (l : List ℕ). S
 
 pub stopped_written : {T : Type 0} (old : Option (List ℕ)) (shows : T → List ℕ) (wanted : Result (List ℕ) Answer) (stop : Stop PathStop) → IsGiven shows wanted (Err stop) → IsWritten old old wanted (Err (writes.Stopped stop))
 stopped_written old shows wanted (Found (stops.Answer a)) given = given
-stopped_written old shows wanted (Found (stops.Fault fault)) given = given
-stopped_written old shows wanted (Unsupported feature block) given = given
 stopped_written old shows wanted ReadFault given = λ text same. none-put old text
-stopped_written old shows wanted NoMemory given = tt
+stopped_written old shows wanted stop given = given
 
 pub ok-same : (wanted : Result (List ℕ) Answer) (a b : List ℕ) → wanted ≡ Ok a → wanted ≡ Ok b → a ≡ b
 ok-same wanted a b e f = let both : Ok a ≡ wanted = sym e in cc
@@ -75,33 +73,20 @@ written_same old new a b r e h = subst (λ (w : Result (List ℕ) Answer). IsWri
 -- what holds where an answer was given holds where it is given by a call that writes
 pub rests_written : {T U : Type 0} (shows : T → U) (wanted : Result U Answer) (P Q : Type 0) (stop : Stop PathStop) → ((a : Answer) → wanted ≡ Err a → P → Q) → RestsOn {T = T} shows wanted P (Err stop) → WhereWritten Q (Err (writes.Stopped stop))
 rests_written shows wanted P Q (Found (stops.Answer a)) f h = f a h.0 h.1
-rests_written shows wanted P Q (Found (stops.Fault fault)) f h = tt
-rests_written shows wanted P Q (Unsupported feature block) f h = tt
-rests_written shows wanted P Q ReadFault f h = tt
-rests_written shows wanted P Q NoMemory f h = tt
+rests_written shows wanted P Q stop f h = tt
 
 pub told_written : (T : Type 0) (needs : Type 0) (stop : Stop PathStop) → WhereTold {T = T} needs (Err stop) → WhereWritten needs (Err (writes.Stopped stop))
 told_written T needs (Found (stops.Answer a)) h = h
-told_written T needs (Found (stops.Fault fault)) h = tt
-told_written T needs (Unsupported feature block) h = tt
-told_written T needs ReadFault h = tt
-told_written T needs NoMemory h = tt
+told_written T needs stop h = tt
 
 pub unanswered_written : (needs : Type 0) (stop : Stop PathStop) → IsNoAnswer stop → WhereWritten needs (Err (writes.Stopped stop))
 unanswered_written needs (Found (stops.Answer a)) h = absurd h
-unanswered_written needs (Found (stops.Fault fault)) h = tt
-unanswered_written needs (Unsupported feature block) h = tt
-unanswered_written needs ReadFault h = tt
-unanswered_written needs NoMemory h = tt
+unanswered_written needs stop h = tt
 
 pub written_where : (P Q : Type 0) (result : Result (Unit {0}) WriteStop) → (P → Q) → WhereWritten P result → WhereWritten Q result
 written_where P Q (Ok _) f h = f h
 written_where P Q (Err (writes.Stopped (Found (stops.Answer a)))) f h = f h
-written_where P Q (Err (writes.Stopped (Found (stops.Fault fault)))) f h = tt
-written_where P Q (Err (writes.Stopped (Unsupported feature block))) f h = tt
-written_where P Q (Err (writes.Stopped ReadFault)) f h = tt
-written_where P Q (Err (writes.Stopped NoMemory)) f h = tt
-written_where P Q (Err writes.WriteFault) f h = tt
+written_where P Q result f h = tt
 
 -- what the contents of a file need is there, by what its path leads to
 pub open_refused : (image : List ℕ) (site : Site) (volume : Loaded) (view : View) (path : List ℕ) (place : Place) (a : Answer) → PathNeeds (view_facts image site volume view) (HasEntriesOf image site volume view) path → found (view_facts image site volume view) path ≡ Ok place → readable place.inode ≡ Err a → ContentsNeed image site volume view path

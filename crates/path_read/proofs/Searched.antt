@@ -27,7 +27,7 @@ use Rattle.fs_record.specs.Facts.{fault_of, all_for, read_attribute, attributes_
 use Rattle.fs_record.specs.declared.fault.RecFault.{RecFault}
 use Rattle.path_search.specs.Parts.{with_read, HasKindIn}
 use Rattle.path_search.proofs.Searched.{HasKeys, run_is, run_facts, cursor_keys}
-use Rattle.path_search.proofs.Needed.{kind_read, refused-attribute}
+use Rattle.path_search.proofs.Needed.{kind_read, refused_by}
 use Rattle.fs_name.specs.declared.naming.Names.{Names}
 use Rattle.std.proofs.lemmas.Bool.{false≢true}
 use Rattle.path_read.specs.declared.search.Took.{Took}
@@ -144,7 +144,7 @@ attributes_there {k = k} hashed image cursor root id left sees (Some v) law orde
       whole = whole;
       read = kind_read hashed k.shape law id attribute_record names (flat_of tree root) (take_while test left) (cursor_keys image cursor root)
           (ap (take_while test) at ∙ run-flat tree root rank (is_of_kind id attribute_record) (run-kind id attribute_record) ordered)
-          (λ pair h kind. refused-attribute names pair kind ∙ run-read k.shape id [] left (sees v) e pair h);
+          (λ pair h kind. refused_by names pair attribute_record kind ∙ run-read k.shape id [] left (sees v) e pair h);
     }
 
 -- what is taken of a run goes on with no gap, or ends at none

@@ -1,31 +1,23 @@
 -- What is there where a stream can't be opened.
-use Rattle.std.proofs.Common.{◌≡◌, ℕ, Bool, true, false, cond, not, ◌&&◌, ◌==◌, List, [], ◌∷◌, map, Some, None, Err, inl, inr, refl, ap, sym, ◌∙◌, subst, arith}
+use Rattle.std.proofs.Common.{◌≡◌, ℕ, Bool, true, false, cond, not, ◌&&◌, ◌==◌, List, [], ◌∷◌, map, Some, None, inl, inr, refl, ap, sym, ◌∙◌, subst}
 use Rattle.std.specs.List.{filter, list_all}
-use Rattle.std.proofs.lemmas.Bool.Decides.{nat_tests}
-use Rattle.std.proofs.lemmas.Grind.{common_steps}
 use Rattle.std.proofs.lemmas.Option.{none-some, same_Some}
 use Rattle.apfs_model.specs.Lists.{In}
-use Rattle.apfs_model.proofs.BoolTests.{test_or, false-not, equal-from, from-equal}
+use Rattle.apfs_model.proofs.BoolTests.{test_or, false-not, equal-from}
 use Rattle.obj_base.specs.Stops.{Tells}
 use Rattle.obj_base.specs.declared.stop.Stop.{Stop}
 use Rattle.obj_base.specs.declared.stop.Stop.TheVariants.{Found, Unsupported, ReadFault, NoMemory}
 use Rattle.obj_base.specs.declared.site.Site.{Site}
 use Rattle.bt_node.specs.Entries.{Pair}
-use Rattle.bt_keys.specs.RecordKey.{record_kind_of, inode_record, attribute_record, sibling_link_record, file_extent_record}
-use Rattle.bt_cursor.specs.Line.{Item, is_leaf_item, line_of}
-use Rattle.bt_cursor.specs.WholeTree.{leaf_pairs}
-use Rattle.bt_cursor.specs.Flat.{flat_of}
+use Rattle.bt_keys.specs.RecordKey.{attribute_record, file_extent_record}
 use Rattle.bt_cursor.specs.declared.fault.WalkFault.{WalkFault}
-use Rattle.bt_cursor.specs.declared.fault.WalkFault.TheVariants.{Unsound, Unnamed, Order, Counts}
-use Rattle.bt_cursor.proofs.Flats.{line-pairs}
-use Rattle.fs_name.specs.declared.naming.Names.{Names}
-use Rattle.fs_name.specs.Normal.{are_hashed}
-use Rattle.fs_record.specs.Facts.{Fact, all_for, read_extent, read_attribute, extents_of, refused}
+use Rattle.bt_cursor.specs.declared.fault.WalkFault.TheVariants.{Unsound, Order}
+use Rattle.fs_record.specs.Facts.{Fact, all_for, extents_of, fault_of}
 use Rattle.fs_record.specs.StreamExtents.{are_extents_ordered, is_extent_placed}
 use Rattle.fs_record.specs.declared.fault.RecFault.{RecFault}
 use Rattle.fs_record.specs.declared.extents.FileExt.{FileExt}
 use Rattle.vol_view.specs.Volumes.{Loaded}
-use Rattle.vol_view.specs.Views.{view_flat, view_line, hashed_tree, plain_tree, IsViewFault}
+use Rattle.vol_view.specs.Views.{view_flat, view_line, IsViewFault}
 use Rattle.vol_view.specs.declared.volume.View.{View}
 use Rattle.file_extent.specs.Streams.{extents_for, are_extents_placed}
 use Rattle.file_extent.specs.Stops.{HasRefused, IsStreamStop}
@@ -34,79 +26,27 @@ use Rattle.file_extent.specs.declared.stop.StreamStop.{StreamStop}
 use Rattle.file_extent.specs.declared.stop.StreamStop.TheVariants as streams
 use Rattle.view_rules.specs.Facts.{Facts}
 use Rattle.view_rules.specs.Extents.{is_disordered, is_misplaced, IsExtentOrder, IsExtentPlace}
-use Rattle.view_rules.specs.Rules.{view_facts, refusal_of, HasRecords}
+use Rattle.view_rules.specs.Rules.{view_facts, HasRecords}
 use Rattle.view_rules.specs.Listed.{raised}
-use Rattle.view_rules.specs.declared.fault.TreeFault.TheVariants.{ExtentOrder, ExtentPlace}
 use Rattle.view_rules.specs.declared.fault.TreeFault.TheVariants.{ExtentOrder, ExtentPlace}
 use Rattle.path_search.specs.Stops.{IsPathFault}
 use Rattle.path_search.specs.Calls.{IsStopThere}
+use Rattle.path_search.proofs.Needed.{refused_by, records_read}
 use Rattle.path_read.specs.Parts.{HasRefused as HasAttributeRefused}
 use Rattle.path_read.specs.Streamed.{id_at, stream_raised}
 use Rattle.path_search.specs.declared.stop.PathStop.{PathStop}
 use Rattle.path_search.specs.declared.stop.PathStop.TheVariants as paths
 
--- ---- a record of an extent that is refused
-record LeafOf (items : List Item) (pair : Pair) : Type 0 where
-  item : Item
-  one : In item items
-  leaf : is_leaf_item item ≡ true
-  same : item.pair ≡ pair
-
-leaf-if : (b : Bool) (item : Item) (items : List Item) (pair : Pair) → is_leaf_item item ≡ b → In pair (map (λ (i : Item). i.pair) (cond b (item ∷ filter is_leaf_item items) (filter is_leaf_item items))) → (In pair (leaf_pairs items) → LeafOf items pair) → LeafOf (item ∷ items) pair
-leaf-if true item items pair test (inl same) rest = record { item = item; one = inl refl; leaf = test; same = sym same }
-leaf-if true item items pair test (inr one) rest = let r = rest one in record { item = r.item; one = inr r.one; leaf = r.leaf; same = r.same }
-leaf-if false item items pair test one rest = let r = rest one in record { item = r.item; one = inr r.one; leaf = r.leaf; same = r.same }
-
-leaf-of : (items : List Item) (pair : Pair) → In pair (leaf_pairs items) → LeafOf items pair
-leaf-of [] pair one = absurd one
-leaf-of (item ∷ items) pair one = leaf-if (is_leaf_item item) item items pair refl one (leaf-of items pair)
-
-refused-extent : (names : Names) (pair : Pair) (why : RecFault) → record_kind_of pair.key ≡ file_extent_record → read_extent pair ≡ Err why → refused names pair ≡ Some why
-unfolding refused
-refused-extent names pair why kind refusal =
-    let a : (record_kind_of pair.key == inode_record) ≡ false = grind (arith, nat_tests, kind) in
-    let b : (record_kind_of pair.key == attribute_record) ≡ false = grind (arith, nat_tests, kind) in
-    let c : (record_kind_of pair.key == sibling_link_record) ≡ false = grind (arith, nat_tests, kind) in
-    let d : (record_kind_of pair.key == file_extent_record) ≡ true = from-equal (record_kind_of pair.key) file_extent_record kind in
-    grind (arith, common_steps, a, b, c, d, refusal)
-
-view-pairs : (image : List ℕ) (site : Site) (volume : Loaded) (view : View) → leaf_pairs (view_line image site volume view) ≡ view_flat image site volume view
-unfolding view_line view_flat
-view-pairs image site volume view =
-    pairs-if (are_hashed volume.names) (line_of (hashed_tree image site volume view) view.root_oid) (line_of (plain_tree image site volume view) view.root_oid) (flat_of (hashed_tree image site volume view) view.root_oid) (flat_of (plain_tree image site volume view) view.root_oid)
-    (line-pairs (hashed_tree image site volume view) view.root_oid) (line-pairs (plain_tree image site volume view) view.root_oid)
-  where
-    pairs-if : (b : Bool) (l m : List Item) (f g : List Pair) → leaf_pairs l ≡ f → leaf_pairs m ≡ g → leaf_pairs (cond b l m) ≡ cond b f g
-    pairs-if true l m f g x y = x
-    pairs-if false l m f g x y = y
-
-leaf-refusal : (names : Names) (item : Item) → is_leaf_item item ≡ true → refusal_of names item ≡ refused names item.pair
-unfolding refusal_of
-leaf-refusal names item leaf = ap (λ b. cond b (refused names item.pair) None) leaf
-
+-- ---- records that are refused
+-- where all records can be read, none of an extent is refused
 pub unrefused : (image : List ℕ) (site : Site) (volume : Loaded) (view : View) (id : ℕ) (why : RecFault) → HasRecords volume.names (view_line image site volume view) → HasRefused (view_flat image site volume view) id why → ⊥
 unrefused image site volume view id why records there =
-    let leaf = leaf-of (view_line image site volume view) there.pair (subst (In there.pair) (sym (view-pairs image site volume view)) there.one) in
-    let none : refused volume.names leaf.item.pair ≡ None = sym (leaf-refusal volume.names leaf.item leaf.leaf) ∙ records leaf.item leaf.one in
-    let some : refused volume.names there.pair ≡ Some why = refused-extent volume.names there.pair why there.kind there.refusal in
-    let both : None ≡ Some why = sym none ∙ (ap (refused volume.names) leaf.same ∙ some) in
-    absurd (let q : ⊥ = cc in q)
+    none-some why (sym (records_read image site volume view records there.pair there.one) ∙ (refused_by volume.names there.pair file_extent_record there.kind ∙ ap fault_of there.refusal))
 
-refused-attribute : (names : Names) (pair : Pair) (why : RecFault) → record_kind_of pair.key ≡ attribute_record → read_attribute pair ≡ Err why → refused names pair ≡ Some why
-unfolding refused
-refused-attribute names pair why kind refusal =
-    let a : (record_kind_of pair.key == inode_record) ≡ false = grind (arith, nat_tests, kind) in
-    let b : (record_kind_of pair.key == attribute_record) ≡ true = from-equal (record_kind_of pair.key) attribute_record kind in
-    grind (arith, common_steps, a, b, refusal)
-
--- where all records can be read, none of an attribute is refused
+-- nor of an attribute
 pub attributes_unrefused : (image : List ℕ) (site : Site) (volume : Loaded) (view : View) → HasAttributeRefused (view_flat image site volume view) → HasRecords volume.names (view_line image site volume view) → ⊥
 attributes_unrefused image site volume view there records =
-    let leaf = leaf-of (view_line image site volume view) there.pair (subst (In there.pair) (sym (view-pairs image site volume view)) there.one) in
-    let none : refused volume.names leaf.item.pair ≡ None = sym (leaf-refusal volume.names leaf.item leaf.leaf) ∙ records leaf.item leaf.one in
-    let some : refused volume.names there.pair ≡ Some there.why = refused-attribute volume.names there.pair there.why there.kind there.refusal in
-    let both : None ≡ Some there.why = sym none ∙ (ap (refused volume.names) leaf.same ∙ some) in
-    absurd (let q : ⊥ = cc in q)
+    none-some there.why (sym (records_read image site volume view records there.pair there.one) ∙ (refused_by volume.names there.pair attribute_record there.kind ∙ ap fault_of there.refusal))
 
 -- ---- the extents of a stream
 record FactOf {X : Type 0} (id : ℕ) (facts : List (Fact X)) (x : X) : Type 0 where
@@ -162,9 +102,7 @@ place_there site facts id fails =
 -- ---- why a stream can't be opened is there
 walk_there : (image : List ℕ) (site : Site) (volume : Loaded) (view : View) (why : WalkFault) → IsViewFault image site volume view why → IsPathFault image site volume view (raised view why)
 walk_there image site volume view (Unsound block why) h = λ profile ranges. h
-walk_there image site volume view (Unnamed oid) h = λ profile ranges. ((refl, refl), h)
-walk_there image site volume view (Order item) h = λ profile ranges. ((refl, refl), h)
-walk_there image site volume view Counts h = λ profile ranges. ((refl, refl), h)
+walk_there image site volume view why h = λ profile ranges. ((refl, refl), h)
 
 pub stream_there : (image : List ℕ) (site : Site) (volume : Loaded) (view : View) (id : ℕ) (stop : Stop StreamStop) (p : Stop PathStop) → stream_raised view id stop ≡ Some p → Tells (IsStreamStop image site volume view id) (IsStreamFeature image site volume view) stop → IsStopThere image site volume view p
 stream_there image site volume view id (Found (streams.Walk root why)) p e h =
@@ -184,10 +122,5 @@ stream_there image site volume view id NoMemory p e h = subst (IsStopThere image
 
 -- where it is a refused record, not all records can be read
 pub stream_refused : (image : List ℕ) (site : Site) (volume : Loaded) (view : View) (id : ℕ) (stop : Stop StreamStop) → stream_raised view id stop ≡ None → Tells (IsStreamStop image site volume view id) (IsStreamFeature image site volume view) stop → HasRecords volume.names (view_line image site volume view) → ⊥
-stream_refused image site volume view id (Found (streams.Walk root why)) e h records = let q : ⊥ = cc in q
 stream_refused image site volume view id (Found (streams.Extent why)) e h records = unrefused image site volume view id why records h
-stream_refused image site volume view id (Found streams.Order) e h records = let q : ⊥ = cc in q
-stream_refused image site volume view id (Found streams.Outside) e h records = let q : ⊥ = cc in q
-stream_refused image site volume view id (Unsupported feature block) e h records = let q : ⊥ = cc in q
-stream_refused image site volume view id ReadFault e h records = let q : ⊥ = cc in q
-stream_refused image site volume view id NoMemory e h records = let q : ⊥ = cc in q
+stream_refused image site volume view id stop e h records = let q : ⊥ = cc in q

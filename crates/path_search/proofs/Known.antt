@@ -101,45 +101,35 @@ lack-there image site volume view fault (inr (same, there)) profile ranges = sub
 
 -- what stops a call on the facts of a view is there
 pub known_there : {T U : Type 0} (image : List ℕ) (site : Site) (volume : Loaded) (view : View) (shows : T → U) (wanted : Result U Answer) (stop : Stop PathStop) → IsKnown (view_facts image site volume view) view shows wanted (Err stop) → IsStopThere image site volume view stop
-known_there image site volume view shows wanted (Found (stops.Answer a)) known = tt
 known_there image site volume view shows wanted (Found (stops.Fault fault)) known = lack-there image site volume view fault known
 known_there image site volume view shows wanted (Unsupported feature block) known = absurd known
-known_there image site volume view shows wanted ReadFault known = tt
-known_there image site volume view shows wanted NoMemory known = tt
+known_there image site volume view shows wanted stop known = tt
 
 -- on a view that meets its rules no fault and no feature is there
 pub lawful_stop : {T U : Type 0} (image : List ℕ) (site : Site) (volume : Loaded) (view : View) (shows : T → U) (wanted : Result U Answer) (stop : Stop PathStop) → IsLawful image site volume view → IsStopThere image site volume view stop → ((a : Answer) → stop ≡ Found (stops.Answer a) → wanted ≡ Err a) → IsGiven shows wanted (Err stop)
 lawful_stop image site volume view shows wanted (Found (stops.Answer a)) lawful there answered = answered a refl
 lawful_stop image site volume view shows wanted (Found (stops.Fault fault)) lawful there answered = refutes lawful.profile image site volume view lawful.ranges fault (there lawful.profile lawful.ranges) lawful.rules
 lawful_stop image site volume view shows wanted (Unsupported feature block) lawful there answered = featureless_rules lawful.profile image site volume view lawful.ranges feature block there lawful.rules
-lawful_stop image site volume view shows wanted ReadFault lawful there answered = tt
-lawful_stop image site volume view shows wanted NoMemory lawful there answered = tt
+lawful_stop image site volume view shows wanted stop lawful there answered = tt
 
 pub known_given : {T U : Type 0} (image : List ℕ) (site : Site) (volume : Loaded) (view : View) (shows : T → U) (wanted : Result U Answer) (result : Result T (Stop PathStop)) → IsLawful image site volume view → IsKnown (view_facts image site volume view) view shows wanted result → IsGiven shows wanted result
-known_given image site volume view shows wanted (Ok x) lawful known = known
-known_given image site volume view shows wanted (Err (Found (stops.Answer a))) lawful known = known
 known_given image site volume view shows wanted (Err (Found (stops.Fault fault))) lawful known = refutes lawful.profile image site volume view lawful.ranges fault (lack-there image site volume view fault known lawful.profile lawful.ranges) lawful.rules
 known_given image site volume view shows wanted (Err (Unsupported feature block)) lawful known = absurd known
 known_given image site volume view shows wanted (Err ReadFault) lawful known = absurd known
-known_given image site volume view shows wanted (Err NoMemory) lawful known = tt
+known_given image site volume view shows wanted result lawful known = known
 
 -- ---- what stops a walk
 
 -- ---- what is known of an entry's file
 pub known_lack : {T U : Type 0} (facts : Facts) (view : View) (e : Fact Entry) (shows : T → U) (wanted : Result U Answer) (stop : Stop PathStop) → In e facts.entries → is_reserved e.id ≡ false → IsPlaceKnown facts view e (Err stop) → IsKnown facts view shows wanted (Err stop)
-known_lack facts view e shows wanted (Found (stops.Answer a)) listed counts known = absurd known
 known_lack facts view e shows wanted (Found (stops.Fault fault)) listed counts known = lack_entry facts view e fault listed counts known.0 known.1
-known_lack facts view e shows wanted (Unsupported feature block) listed counts known = absurd known
-known_lack facts view e shows wanted ReadFault listed counts known = absurd known
 known_lack facts view e shows wanted NoMemory listed counts known = tt
+known_lack facts view e shows wanted stop listed counts known = absurd known
 
 -- what stops a part of a path stops the path
 pub known_ends : {T U V W : Type 0} (facts : Facts) (view : View) (shows : T → U) (wanted : Result U Answer) (sees : V → W) (whole : Result W Answer) (stop : Stop PathStop) → ((a : Answer) → wanted ≡ Err a → whole ≡ Err a) → IsKnown facts view shows wanted (Err stop) → IsKnown facts view sees whole (Err stop)
 known_ends facts view shows wanted sees whole (Found (stops.Answer a)) goes known = goes a known
-known_ends facts view shows wanted sees whole (Found (stops.Fault fault)) goes known = known
-known_ends facts view shows wanted sees whole (Unsupported feature block) goes known = known
-known_ends facts view shows wanted sees whole ReadFault goes known = known
-known_ends facts view shows wanted sees whole NoMemory goes known = tt
+known_ends facts view shows wanted sees whole stop goes known = known
 
 -- what is found by the root and the parts
 pub found_by : (facts : Facts) (path : List ℕ) (root : Place) (parts : List (List ℕ)) (whole : Result Place Answer) → rooted facts ≡ Ok root → parts ≡ parts_of path → along facts parts root ≡ whole → found facts path ≡ whole
@@ -152,9 +142,7 @@ found_lost facts path a e = found_along facts path ∙ ap (λ (r : Result Place 
 -- a walk stops with no answer
 pub raised_unanswered : (view : View) (stop : Stop WalkFault) → IsNoAnswer (raised (of_walk view) stop)
 raised_unanswered view (Found why) = tt
-raised_unanswered view (Unsupported name block) = tt
-raised_unanswered view ReadFault = tt
-raised_unanswered view NoMemory = tt
+raised_unanswered view stop = tt
 
 same-fault : (a b : TreeFault) → ◌≡◌ {A = Stop PathStop} (Found (stops.Fault a)) (Found (stops.Fault b)) → a ≡ b
 same-fault a b e = cc
@@ -162,9 +150,7 @@ same-fault a b e = cc
 -- a fault that is said of a path is one of the view
 fault-said : (stop : Stop TreeFault) (fault : TreeFault) → raised stops.Fault stop ≡ Found (stops.Fault fault) → stop ≡ Found fault
 fault-said (Found other) fault e = ap Found (same-fault other fault e)
-fault-said (Unsupported name block) fault e = absurd cc
-fault-said ReadFault fault e = absurd cc
-fault-said NoMemory fault e = absurd cc
+fault-said stop fault e = absurd cc
 
 stop-same : {T : Type 0} (a b : Stop PathStop) → ◌≡◌ {A = Result T (Stop PathStop)} (Err a) (Err b) → a ≡ b
 stop-same a b e = cc
@@ -174,16 +160,13 @@ fault_said stop other fault said e = fault-said stop fault (sym said ∙ stop-sa
 
 pub said_unanswered : (stop : Stop TreeFault) → IsNoAnswer (raised stops.Fault stop)
 said_unanswered (Found fault) = tt
-said_unanswered (Unsupported name block) = tt
-said_unanswered ReadFault = tt
-said_unanswered NoMemory = tt
+said_unanswered stop = tt
 
 -- what is there whatever the profile and the new ranges is there where a path stops
 pub said_there : (image : List ℕ) (site : Site) (volume : Loaded) (view : View) (stop : Stop TreeFault) → ((profile : Profile) (ranges : List NewRange) → Tells (IsTreeFault profile image site volume view ranges) (IsViewFeature image site volume view) stop) → IsStopThere image site volume view (raised stops.Fault stop)
 said_there image site volume view (Found fault) there = there
 said_there image site volume view (Unsupported name block) there = there Plain []
-said_there image site volume view ReadFault there = tt
-said_there image site volume view NoMemory there = tt
+said_there image site volume view stop there = tt
 
 pub unanswered_given : {T U : Type 0} (image : List ℕ) (site : Site) (volume : Loaded) (view : View) (shows : T → U) (wanted : Result U Answer) (stop : Stop PathStop) → IsLawful image site volume view → IsStopThere image site volume view stop → IsNoAnswer stop → IsGiven shows wanted (Err stop)
 unanswered_given image site volume view shows wanted stop lawful there unanswered = lawful_stop image site volume view shows wanted stop lawful there (λ a e. absurd (subst (λ (s : Stop PathStop). IsNoAnswer s) e unanswered))
@@ -191,10 +174,7 @@ unanswered_given image site volume view shows wanted stop lawful there unanswere
 -- what is given of a path is given of what it leads to
 pub given_on : {T U V W : Type 0} (shows : T → U) (wanted : Result U Answer) (sees : V → W) (whole : Result W Answer) (stop : Stop PathStop) → ((a : Answer) → wanted ≡ Err a → whole ≡ Err a) → IsGiven shows wanted (Err stop) → IsGiven sees whole (Err stop)
 given_on shows wanted sees whole (Found (stops.Answer a)) goes given = goes a given
-given_on shows wanted sees whole (Found (stops.Fault fault)) goes given = given
-given_on shows wanted sees whole (Unsupported feature block) goes given = given
-given_on shows wanted sees whole ReadFault goes given = given
-given_on shows wanted sees whole NoMemory goes given = tt
+given_on shows wanted sees whole stop goes given = given
 
 pub target_lost : (facts : Facts) (path : List ℕ) (a : Answer) → found facts path ≡ Err a → target_found facts path ≡ Err a
 target_lost facts path a e = ap (λ (r : Result Place Answer). and_then {T = Place} {U = Target} r (λ (p : Place). Ok (target_of p))) e

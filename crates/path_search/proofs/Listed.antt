@@ -82,9 +82,8 @@ same-target facts e target told there kind size =
 -- one entry more
 with-one : (es : List (Fact Entry)) (kinds : List KindAndSize) (e : Fact Entry) (told : KindAndSize) → length es ≡ length kinds → targets_with (es ++ e ∷ []) (kinds ++ told ∷ []) ≡ targets_with es kinds ++ target_with e told ∷ []
 with-one [] [] e told same = refl
-with-one [] (k ∷ ks) e told same = absurd (omega arith)
-with-one (f ∷ es) [] e told same = absurd (omega arith)
 with-one (f ∷ es) (k ∷ ks) e told same = ap (λ l. target_with f k ∷ l) (with-one es ks e told (omega arith))
+with-one es ks e told same = absurd (omega arith)
 
 short : {X : Type 0} (i : ℕ) (xs : List X) → i ≤ length xs → length (take i xs) ≡ i
 short i xs low = length-take-le i xs low

@@ -11,7 +11,7 @@ use Rattle.apfs_model.proofs.BoolTests.{clash, both-true, from-equal, equal-from
 use Rattle.apfs_model.proofs.Searches.{in-append, in-filter, from-map, from-filter, filter-test}
 use Rattle.obj_base.specs.declared.site.Site.{Site}
 use Rattle.obj_base.specs.declared.stop.Stop.{Stop}
-use Rattle.obj_base.specs.declared.stop.Stop.TheVariants.{Found, Unsupported, ReadFault, NoMemory}
+use Rattle.obj_base.specs.declared.stop.Stop.TheVariants.{Found}
 use Rattle.bt_node.specs.Shape.{Shape}
 use Rattle.bt_node.specs.Entries.{Pair}
 use Rattle.bt_node.specs.declared.key.Rank.{Rank}
@@ -185,46 +185,30 @@ listing_mono facts path one other f h = record { led = path_mono facts path one 
 
 -- ---- what was answered
 pub led_as : {T : Type 0} (P Q : Type 0) (onward : Onward T) → (P → Q) → WhereLed P onward → WhereLed Q onward
-led_as P Q (To x) f h = f h
-led_as P Q (Answered a) f h = f h
 led_as P Q Lost f h = tt
+led_as P Q onward f h = f h
 
 pub told_as : (T U : Type 0) (P Q : Type 0) (stop : Stop PathStop) → ((a : Answer) → stop ≡ Found (stops.Answer a) → P → Q) → WhereTold {T = T} P (Err stop) → WhereTold {T = U} Q (Err stop)
 told_as T U P Q (Found (stops.Answer a)) f h = f a refl h
-told_as T U P Q (Found (stops.Fault fault)) f h = tt
-told_as T U P Q (Unsupported feature block) f h = tt
-told_as T U P Q ReadFault f h = tt
-told_as T U P Q NoMemory f h = tt
+told_as T U P Q stop f h = tt
 
 pub where_as : {T : Type 0} (P Q : Type 0) (result : Result T (Stop PathStop)) → (P → Q) → WhereTold P result → WhereTold Q result
 where_as P Q (Ok x) f h = f h
 where_as P Q (Err (Found (stops.Answer a))) f h = f h
-where_as P Q (Err (Found (stops.Fault fault))) f h = tt
-where_as P Q (Err (Unsupported feature block)) f h = tt
-where_as P Q (Err ReadFault) f h = tt
-where_as P Q (Err NoMemory) f h = tt
+where_as P Q result f h = tt
 
 -- a call that stops with no answer says nothing
 pub untold : (T : Type 0) (P : Type 0) (stop : Stop PathStop) → IsNoAnswer stop → WhereTold {T = T} P (Err stop)
 untold T P (Found (stops.Answer a)) h = absurd h
-untold T P (Found (stops.Fault fault)) h = tt
-untold T P (Unsupported feature block) h = tt
-untold T P ReadFault h = tt
-untold T P NoMemory h = tt
+untold T P stop h = tt
 
 pub place_untold : (T : Type 0) (facts : Facts) (view : View) (e : Fact Entry) (P : Type 0) (stop : Stop PathStop) → IsPlaceKnown facts view e (Err stop) → WhereTold {T = T} P (Err stop)
 place_untold T facts view e P (Found (stops.Answer a)) h = absurd h
-place_untold T facts view e P (Found (stops.Fault fault)) h = tt
-place_untold T facts view e P (Unsupported feature block) h = tt
-place_untold T facts view e P ReadFault h = tt
-place_untold T facts view e P NoMemory h = tt
+place_untold T facts view e P stop h = tt
 
 pub rests_stopped : {T U : Type 0} (shows : T → U) (wanted : Result U Answer) (needs : Type 0) (stop : Stop PathStop) → IsNoAnswer stop → RestsOn shows wanted needs (Err stop)
 rests_stopped shows wanted needs (Found (stops.Answer a)) h = absurd h
-rests_stopped shows wanted needs (Found (stops.Fault fault)) h = tt
-rests_stopped shows wanted needs (Unsupported feature block) h = tt
-rests_stopped shows wanted needs ReadFault h = tt
-rests_stopped shows wanted needs NoMemory h = tt
+rests_stopped shows wanted needs stop h = tt
 
 pub known_err : {T U : Type 0} (facts : Facts) (view : View) (shows : T → U) (wanted : Result U Answer) (stop : Stop PathStop) (a : Answer) → IsKnown facts view shows wanted (Err stop) → stop ≡ Found (stops.Answer a) → wanted ≡ Err a
 known_err {T} facts view shows wanted stop a known e = subst (λ (s : Stop PathStop). IsKnown {T = T} facts view shows wanted (Err s)) e known
@@ -232,10 +216,7 @@ known_err {T} facts view shows wanted stop a known e = subst (λ (s : Stop PathS
 pub rests_known : {T U : Type 0} (facts : Facts) (view : View) (shows : T → U) (wanted : Result U Answer) (needs : Type 0) (result : Result T (Stop PathStop)) → IsKnown facts view shows wanted result → WhereTold needs result → RestsOn shows wanted needs result
 rests_known facts view shows wanted needs (Ok x) known h = (known, h)
 rests_known facts view shows wanted needs (Err (Found (stops.Answer a))) known h = (known, h)
-rests_known facts view shows wanted needs (Err (Found (stops.Fault fault))) known h = tt
-rests_known facts view shows wanted needs (Err (Unsupported feature block)) known h = tt
-rests_known facts view shows wanted needs (Err ReadFault) known h = tt
-rests_known facts view shows wanted needs (Err NoMemory) known h = tt
+rests_known facts view shows wanted needs result known h = tt
 
 pub rests_to : {T U : Type 0} (shows : T → U) (wanted : Result U Answer) (needs : Type 0) (onward : Onward T) (x : T) → onward ≡ To x → Leads shows wanted onward → WhereLed needs onward → (wanted ≡ Ok (shows x)) × needs
 rests_to {T} shows wanted needs onward x e leads h = subst (λ (o : Onward T). Leads shows wanted o → WhereLed needs o → (wanted ≡ Ok (shows x)) × needs) (sym e) (λ a b. (a, b)) leads h
@@ -245,17 +226,11 @@ rests_ends {T} shows wanted needs onward a e leads h = subst (λ (o : Onward T).
 
 pub rests_as : {T U V W : Type 0} (shows : T → U) (wanted : Result U Answer) (sees : V → W) (whole : Result W Answer) (P Q : Type 0) (stop : Stop PathStop) → ((a : Answer) → wanted ≡ Err a → whole ≡ Err a) → ((a : Answer) → wanted ≡ Err a → P → Q) → RestsOn shows wanted P (Err stop) → RestsOn sees whole Q (Err stop)
 rests_as shows wanted sees whole P Q (Found (stops.Answer a)) goes f h = (goes a h.0, f a h.0 h.1)
-rests_as shows wanted sees whole P Q (Found (stops.Fault fault)) goes f h = tt
-rests_as shows wanted sees whole P Q (Unsupported feature block) goes f h = tt
-rests_as shows wanted sees whole P Q ReadFault goes f h = tt
-rests_as shows wanted sees whole P Q NoMemory goes f h = tt
+rests_as shows wanted sees whole P Q stop goes f h = tt
 
 pub rests_told : {T U : Type 0} (W : Type 0) (shows : T → U) (wanted : Result U Answer) (P Q : Type 0) (stop : Stop PathStop) → ((a : Answer) → wanted ≡ Err a → P → Q) → RestsOn shows wanted P (Err stop) → WhereTold {T = W} Q (Err stop)
 rests_told W shows wanted P Q (Found (stops.Answer a)) f h = f a h.0 h.1
-rests_told W shows wanted P Q (Found (stops.Fault fault)) f h = tt
-rests_told W shows wanted P Q (Unsupported feature block) f h = tt
-rests_told W shows wanted P Q ReadFault f h = tt
-rests_told W shows wanted P Q NoMemory f h = tt
+rests_told W shows wanted P Q stop f h = tt
 
 pub rests_on : {T U V W : Type 0} (shows : T → U) (wanted : Result U Answer) (sees : V → W) (whole : Result W Answer) (needs : Type 0) (stop : Stop PathStop) → ((a : Answer) → wanted ≡ Err a → whole ≡ Err a) → RestsOn shows wanted needs (Err stop) → RestsOn sees whole needs (Err stop)
 rests_on shows wanted sees whole needs stop goes h = rests_as shows wanted sees whole needs needs stop goes (λ a e n. n) h
@@ -268,21 +243,17 @@ pub in_at : {K : Type 0} (P : Tree K → ℕ → Type 0) (tree other : Tree K) (
 in_at {K} P tree other root same e f h = subst (λ (t : Tree K). P t same) e (subst (λ r. P tree r) f h)
 
 -- ---- records that are all there
--- an entry's record is refused where its reader refuses it
-by-kind : Names → Pair → ℕ → Option RecFault
-by-kind names pair kind =
+-- a record of a kind is refused where the reader of that kind refuses it
+abbrev pub by_kind : Names → Pair → ℕ → Option RecFault
+by_kind names pair kind =
     cond (kind == inode_record) (fault_of (read_inode pair))
     (cond (kind == attribute_record) (fault_of (read_attribute pair))
     (cond (kind == sibling_link_record) (fault_of (read_link pair))
     (cond (kind == file_extent_record) (fault_of (read_extent pair)) (cond (kind == entry_record) (fault_of (read_entry names pair)) (cond (kind == sibling_map_record) (fault_of (read_sibling pair)) None)))))
 
-pub refused-entry : (names : Names) (pair : Pair) → record_kind_of pair.key ≡ entry_record → refused names pair ≡ fault_of (read_entry names pair)
-unfolding refused by-kind
-refused-entry names pair kind = ap (by-kind names pair) kind
-
-pub refused-attribute : (names : Names) (pair : Pair) → record_kind_of pair.key ≡ attribute_record → refused names pair ≡ fault_of (read_attribute pair)
-unfolding refused by-kind
-refused-attribute names pair kind = ap (by-kind names pair) kind
+pub refused_by : (names : Names) (pair : Pair) (kind : ℕ) → record_kind_of pair.key ≡ kind → refused names pair ≡ by_kind names pair kind
+unfolding refused
+refused_by names pair kind e = ap (by_kind names pair) e
 
 -- the records of a run of an id and a kind are all of that id and kind
 pub kind_read : {K : Type 0} (hashed : Bool) (shape : Shape K) → IsFsShape hashed shape → (id kind : ℕ) (names : Names) (flat run : List Pair) → HasKeys shape flat → run ≡ filter (run_in shape (is_of_kind id kind)) flat →
@@ -330,7 +301,7 @@ entries_there {k = k} hashed image cursor root id names keep left sees (Some v) 
       whole = whole;
       read = kind_read hashed k.shape law id entry_record names (flat_of tree root) (take_while test left) (cursor_keys image cursor root)
           (ap (take_while test) at ∙ run-flat tree root rank (is_of_kind id entry_record) (run-kind id entry_record) ordered)
-          (λ pair h kind. refused-entry names pair kind ∙ run-read k.shape names keep id [] left (sees v) e pair h);
+          (λ pair h kind. refused_by names pair entry_record kind ∙ run-read k.shape names keep id [] left (sees v) e pair h);
     }
 
 -- ---- what is taken of a run

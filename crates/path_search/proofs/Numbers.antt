@@ -77,13 +77,11 @@ found-in n ts x ys h all low =
 -- ---- lists in that order
 lt-less : (r : Ordering) → is_lt r ≡ true → r ≡ Less
 lt-less Less e = refl
-lt-less Equal e = absurd cc
-lt-less Greater e = absurd cc
+lt-less order e = absurd cc
 
 gt-greater : (r : Ordering) → is_gt r ≡ true → r ≡ Greater
-gt-greater Less e = absurd cc
-gt-greater Equal e = absurd cc
 gt-greater Greater e = refl
+gt-greater order e = absurd cc
 
 number-less : (a b : ℕ) → a < b → is_lt (nat_cmp a b) ≡ true
 number-less a b low = ap (λ (t : Bool). is_lt (cond t Less (cond (a == b) Equal Greater))) (from-below a b low)

@@ -53,9 +53,8 @@ key-id hashed shape law pair None e some = absurd (false≢true some)
 key-id hashed shape law pair (Some key) e some = (law.reads pair.key key e).id
 
 fact-id : {X : Type 0} (kind : ℕ) (read : Pair → Result X RecFault) (pair : Pair) (f : Fact X) (a : Bool) (o : Option X) → cond a (option_map (told_by pair) o) None ≡ Some f → f.id ≡ id_of pair.key
-fact-id kind read pair f false o e = absurd cc
-fact-id kind read pair f true None e = absurd cc
 fact-id {X} kind read pair f true (Some x) e = let s : told_by pair x ≡ f = cc in sym (ap (λ (g : Fact X). g.id) s)
+fact-id kind read pair f b o e = absurd cc
 
 rise-step : {K X : Type 0} (hashed : Bool) (shape : Shape K) → IsFsShape hashed shape → (kind : ℕ) (read : Pair → Result X RecFault) (pair : Pair) (pairs : List Pair) → HasKeys shape (pair ∷ pairs) → ((q : Pair) → In q pairs → is_below (rank_of shape q) (rank_of shape pair) ≡ false) → (o : Option (Fact X)) → fact_of kind read pair ≡ o → Rises (facts_of kind read pairs) → Rises (cons_option o (facts_of kind read pairs))
 rise-step hashed shape law kind read pair pairs keys above None e rest = rest

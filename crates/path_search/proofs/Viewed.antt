@@ -60,9 +60,6 @@ leads_to {T} shows wanted onward x e leads = subst (λ (o : Onward T). Leads sho
 pub leads_err : {T U : Type 0} (shows : T → U) (wanted : Result U Answer) (onward : Onward T) (a : Answer) → onward ≡ Answered a → Leads shows wanted onward → wanted ≡ Err a
 leads_err {T} shows wanted onward a e leads = subst (λ (o : Onward T). Leads shows wanted o) e leads
 
-pub leads_same : {T U : Type 0} (shows : T → U) (wanted other : Result U Answer) (onward : Onward T) → wanted ≡ other → Leads shows wanted onward → Leads shows other onward
-leads_same {T} {U} shows wanted other onward e leads = subst (λ (w : Result U Answer). Leads shows w onward) e leads
-
 pub led_to : {T : Type 0} (P : Type 0) (onward : Onward T) (x : T) → onward ≡ To x → WhereLed P onward → P
 led_to {T} P onward x e led = subst (λ (o : Onward T). WhereLed P o) e led
 

@@ -23,10 +23,8 @@ use Rattle.tree_export.specs.declared.content.Content.TheVariants.{Directory, St
 
 -- an inode whose contents can be given is the one that is asked about
 readable-step : (inode x : Inode) (a b c : Bool) → cond a (Err NotFile) (cond b (Err Compressed) (cond c (Err Dataless) (Ok inode))) ≡ Ok x → x ≡ inode
-readable-step inode x true b c e = absurd (let q : ⊥ = cc in q)
-readable-step inode x false true c e = absurd (let q : ⊥ = cc in q)
-readable-step inode x false false true e = absurd (let q : ⊥ = cc in q)
 readable-step inode x false false false e = let s : inode ≡ x = cc in sym s
+readable-step inode x a b c e = absurd (let q : ⊥ = cc in q)
 
 readable-same : (inode x : Inode) → readable inode ≡ Ok x → x ≡ inode
 unfolding readable
@@ -85,9 +83,8 @@ stream-of id None own size e = absurd (let q : ⊥ = cc in q)
 stream-of id (Some stream) own size e = let s : own ≡ id = cc in s
 
 content-step : (inode : Inode) (d r : Bool) (own size : ℕ) → Stream own size ≡ cond d Directory (cond r (content_by inode.private_id inode.stream) Nothing) → own ≡ inode.private_id
-content-step inode true r own size e = absurd (let q : ⊥ = cc in q)
 content-step inode false true own size e = stream-of inode.private_id inode.stream own size e
-content-step inode false false own size e = absurd (let q : ⊥ = cc in q)
+content-step inode d r own size e = absurd (let q : ⊥ = cc in q)
 
 pub content_stream : (inode : Inode) (own size : ℕ) → Stream own size ≡ content_of inode → own ≡ inode.private_id
 unfolding content_of

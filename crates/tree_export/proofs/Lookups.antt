@@ -4,7 +4,7 @@ use Rattle.std.proofs.lemmas.Bool.{false≢true}
 use Rattle.obj_base.specs.Stops.{Tells}
 use Rattle.obj_base.specs.declared.site.Site.{Site}
 use Rattle.obj_base.specs.declared.stop.Stop.{Stop}
-use Rattle.obj_base.specs.declared.stop.Stop.TheVariants.{Found, Unsupported, ReadFault, NoMemory}
+use Rattle.obj_base.specs.declared.stop.Stop.TheVariants.{Found, Unsupported}
 use Rattle.bt_node.specs.Entries.{Pair}
 use Rattle.bt_cursor.specs.Tree.{Tree}
 use Rattle.bt_cursor.specs.Flat.{flat_of}
@@ -31,9 +31,7 @@ use Rattle.tree_export.specs.declared.stop.ExportFault.TheVariants as faults
 pub gather_lookup : {K : Type 0} (tree : Tree K) (root id : ℕ) (stop : Stop GatherFault) → Tells (IsGatherFault tree root (λ _. false)) (HasFeature tree root) stop → Tells (IsLookupFault tree root id) (HasFeature tree root) (gather_raised id stop)
 gather_lookup tree root id (Found (gathers.Tree why)) h = (refl, h)
 gather_lookup tree root id (Found (gathers.Refused item)) h = absurd (false≢true h.refused)
-gather_lookup tree root id (Unsupported feature block) h = h
-gather_lookup tree root id ReadFault h = tt
-gather_lookup tree root id NoMemory h = tt
+gather_lookup tree root id stop h = h
 
 -- ---- in a view
 by-true : (b : Bool) (P Q : Type 0) → b ≡ true → P → FactBy b P Q
@@ -61,8 +59,7 @@ hashed_lookup image site volume view id (Found (faults.Value own why)) e h =
 hashed_lookup image site volume view id (Found (faults.NoInode own)) e h =
     (h.0, (hashed-whole image site volume view e (means_whole (hashed_tree image site volume view) view.root_oid h.1), subst (λ (ps : List Pair). LacksInode ps own) (sym (hashed_flat image site volume view e)) (subst (λ (n : ℕ). LacksInode (flat_of (hashed_tree image site volume view) view.root_oid) n) (sym h.0) h.2)))
 hashed_lookup image site volume view id (Unsupported feature block) e h = by-true (are_hashed volume.names) (HasFeature (hashed_tree image site volume view) view.root_oid feature block) (HasFeature (plain_tree image site volume view) view.root_oid feature block) e h
-hashed_lookup image site volume view id ReadFault e h = tt
-hashed_lookup image site volume view id NoMemory e h = tt
+hashed_lookup image site volume view id stop e h = tt
 
 pub plain_lookup : (image : List ℕ) (site : Site) (volume : Loaded) (view : View) (id : ℕ) (stop : Stop ExportFault) → are_hashed volume.names ≡ false →
     Tells (IsLookupFault (plain_tree image site volume view) view.root_oid id) (HasFeature (plain_tree image site volume view) view.root_oid) stop → Tells (IsFaultOf image site volume view id) (IsViewFeature image site volume view) stop
@@ -73,5 +70,4 @@ plain_lookup image site volume view id (Found (faults.Value own why)) e h =
 plain_lookup image site volume view id (Found (faults.NoInode own)) e h =
     (h.0, (plain-whole image site volume view e (means_whole (plain_tree image site volume view) view.root_oid h.1), subst (λ (ps : List Pair). LacksInode ps own) (sym (plain_flat image site volume view e)) (subst (λ (n : ℕ). LacksInode (flat_of (plain_tree image site volume view) view.root_oid) n) (sym h.0) h.2)))
 plain_lookup image site volume view id (Unsupported feature block) e h = by-false (are_hashed volume.names) (HasFeature (hashed_tree image site volume view) view.root_oid feature block) (HasFeature (plain_tree image site volume view) view.root_oid feature block) e h
-plain_lookup image site volume view id ReadFault e h = tt
-plain_lookup image site volume view id NoMemory e h = tt
+plain_lookup image site volume view id stop e h = tt

@@ -1,5 +1,5 @@
 -- Paths that are written as they are.
-use Rattle.std.proofs.Common.{◌≡◌, ◌≢◌, ◌+◌, ◌<◌, ◌≤◌, ◌==◌, ◌&&◌, ℕ, Bool, true, false, cond, List, [], ◌∷◌, ◌++◌, length, map, drop, get_or, refl, ap, sym, ◌∙◌, subst, append_assoc, add-one, drop-cons, arith}
+use Rattle.std.proofs.Common.{◌≡◌, ◌≢◌, ◌+◌, ◌<◌, ◌≤◌, ◌==◌, ◌&&◌, ℕ, Bool, true, false, cond, List, [], ◌∷◌, ◌++◌, length, map, drop, get_or, refl, ap, sym, ◌∙◌, subst, add-one, drop-cons, arith}
 use Rattle.std.specs.Prelude.{All, bytes_eq, codes}
 use Rattle.std.specs.List.{flat_map, join_by, onto_first}
 use Rattle.std.proofs.lemmas.List.{drop_all}

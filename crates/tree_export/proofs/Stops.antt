@@ -1,16 +1,17 @@
 -- What stops the call, on views that are whole or meet their rules.
-use Rattle.std.proofs.Common.{◌≡◌, ◌==◌, ℕ, Bool, true, false, cond, List, Option, Some, None, Result, Ok, Err, refl, ap, sym, ◌∙◌, subst}
+use Rattle.std.proofs.Common.{◌≡◌, ◌==◌, ℕ, Bool, true, false, cond, List, Some, None, Result, Ok, refl, ap, sym, ◌∙◌, subst}
 use Rattle.std.specs.Prelude.{option_map}
 use Rattle.std.specs.List.{find}
+use Rattle.std.proofs.lemmas.Option.{none-some}
 use Rattle.apfs_model.specs.Lists.{In, value_of}
-use Rattle.apfs_model.proofs.BoolTests.{equal-from, from-equal}
+use Rattle.apfs_model.proofs.BoolTests.{equal-from}
 use Rattle.apfs_model.proofs.Searches.{found-in, get-in}
 use Rattle.obj_base.specs.Stops.{Tells, raised as raised_by}
 use Rattle.obj_base.specs.declared.site.Site.{Site}
 use Rattle.obj_base.specs.declared.stop.Stop.{Stop}
 use Rattle.obj_base.specs.declared.stop.Stop.TheVariants.{Found, Unsupported, ReadFault, NoMemory}
 use Rattle.bt_node.specs.Entries.{Pair}
-use Rattle.bt_keys.specs.RecordKey.{id_of, record_kind_of, inode_record, attribute_record, sibling_link_record, file_extent_record, entry_record, sibling_map_record}
+use Rattle.bt_keys.specs.RecordKey.{id_of, record_kind_of, inode_record}
 use Rattle.bt_cursor.specs.Line.{line_of}
 use Rattle.bt_cursor.specs.Met.{is_walkable}
 use Rattle.bt_cursor.specs.Order.{is_ordered}
@@ -19,9 +20,8 @@ use Rattle.bt_cursor.specs.Whole.{is_whole}
 use Rattle.bt_cursor.proofs.Wholes.{whole_means}
 use Rattle.bt_keys.specs.Shapes.{fs_shape, fs_plain_shape}
 use Rattle.fs_name.specs.Normal.{are_hashed}
-use Rattle.fs_name.specs.declared.naming.Names.{Names}
 use Rattle.fs_record.specs.Inodes.{Inode}
-use Rattle.fs_record.specs.Facts.{Fact, told_by, fact_of, read_inode, read_attribute, read_link, read_extent, read_entry, read_sibling, first_for, inodes_of, fault_of, refused}
+use Rattle.fs_record.specs.Facts.{Fact, told_by, fact_of, read_inode, first_for, inodes_of, fault_of}
 use Rattle.fs_record.specs.declared.fault.RecFault.{RecFault}
 use Rattle.file_extent.specs.declared.stop.StreamStop.{StreamStop}
 use Rattle.file_extent.specs.declared.stop.StreamStop.TheVariants as streams
@@ -37,7 +37,7 @@ use Rattle.view_rules.proofs.Law.{refutes, featureless_rules}
 use Rattle.view_rules.proofs.Trees.{ViewParts, view-clear, featureless}
 use Rattle.path_search.specs.Stops.{IsLawful, IsPathFault}
 use Rattle.path_search.specs.declared.stop.PathStop.TheVariants as paths
-use Rattle.path_search.proofs.Needed.{records_read}
+use Rattle.path_search.proofs.Needed.{refused_by, records_read}
 use Rattle.path_search.proofs.Tallies.{in-given, mapped-at}
 use Rattle.path_read.specs.Streamed.{id_at}
 use Rattle.path_read.proofs.StreamFaults.{unrefused, stream_there}
@@ -46,11 +46,11 @@ use Rattle.tree_export.specs.Faults.{HasInode, LacksInode, IsInodeOf, IsRefusedI
 use Rattle.tree_export.specs.Stopping.{IsExportStop, IsNoInode, StopsAt, IsFailure}
 use Rattle.tree_export.specs.Parts.{HasContent, IsFileStop, IsContentStop}
 use Rattle.tree_export.specs.declared.content.Content.{Content}
-use Rattle.tree_export.specs.declared.content.Content.TheVariants.{Directory, Empty, Stream, Nothing}
+use Rattle.tree_export.specs.declared.content.Content.TheVariants.{Stream}
 use Rattle.tree_export.specs.declared.stop.ExportFault.{ExportFault}
 use Rattle.tree_export.specs.declared.stop.ExportFault.TheVariants as faults
 use Rattle.tree_export.specs.declared.stop.ExportStop.{ExportStop}
-use Rattle.tree_export.specs.declared.stop.ExportStop.TheVariants.{Stopped, WriteFault}
+use Rattle.tree_export.specs.declared.stop.ExportStop.TheVariants.{Stopped}
 use Rattle.tree_export.proofs.Contents.{content_stream}
 use Rattle.tree_export.proofs.Rows.{items_have}
 
@@ -75,26 +75,16 @@ missing_only image site volume view id (Stopped (Found (faults.Stream own why)))
 missing_only image site volume view id (Stopped (Found (faults.Walk own why))) there whole lacks = view-clear image site volume view why there.1 (whole-parts image site volume view whole)
 missing_only image site volume view id (Stopped (Found (faults.Value own why))) there whole lacks =
     lacks (subst (HasInode (view_flat image site volume view)) there.0 (there.1.0, there.1.1))
-missing_only image site volume view id (Stopped (Found (faults.NoInode own))) there whole lacks = tt
 missing_only image site volume view id (Stopped (Unsupported feature block)) there whole lacks = featureless image site volume view feature block there (whole-parts image site volume view whole).0
-missing_only image site volume view id (Stopped ReadFault) there whole lacks = tt
-missing_only image site volume view id (Stopped NoMemory) there whole lacks = tt
-missing_only image site volume view id WriteFault there whole lacks = tt
+missing_only image site volume view id stop there whole lacks = tt
 
 -- ---- a content that can't be put
 pub content_stops : (image : List ℕ) (site : Site) (volume : Loaded) (view : View) (id : ℕ) (content : Content) (stop : ExportStop) → HasContent (view_flat image site volume view) id content → IsContentStop image site volume view id content stop → IsExportStop image site volume view id stop
-content_stops image site volume view id Directory stop has is = subst (IsExportStop image site volume view id) (sym is) tt
-content_stops image site volume view id Empty stop has is = subst (IsExportStop image site volume view id) (sym is) tt
-content_stops image site volume view id Nothing stop has is = subst (IsExportStop image site volume view id) (sym is) tt
 content_stops image site volume view id (Stream own size) (Stopped (Found (faults.Stream named why))) has is =
     (is.0, (has.0, subst (λ (n : ℕ). IsInodeOf (view_flat image site volume view) n has.0) (sym is.0) has.1, subst (λ (n : ℕ). IsStreamStop image site volume view n why) (content_stream has.0 own size has.2) is.1))
-content_stops image site volume view id (Stream own size) (Stopped (Found (faults.Walk named why))) has is = absurd is
-content_stops image site volume view id (Stream own size) (Stopped (Found (faults.Value named why))) has is = absurd is
-content_stops image site volume view id (Stream own size) (Stopped (Found (faults.NoInode named))) has is = absurd is
-content_stops image site volume view id (Stream own size) (Stopped (Unsupported feature block)) has is = is
-content_stops image site volume view id (Stream own size) (Stopped ReadFault) has is = tt
-content_stops image site volume view id (Stream own size) (Stopped NoMemory) has is = tt
-content_stops image site volume view id (Stream own size) WriteFault has is = tt
+content_stops image site volume view id (Stream own size) (Stopped (Found why)) has is = absurd is
+content_stops image site volume view id (Stream own size) stop has is = is
+content_stops image site volume view id content stop has is = subst (IsExportStop image site volume view id) (sym is) tt
 
 -- ---- on a view that meets its rules
 path-refuted : (image : List ℕ) (site : Site) (volume : Loaded) (view : View) (fault : _) → IsLawful image site volume view → IsPathFault image site volume view fault → ⊥
@@ -109,28 +99,14 @@ stream-refuted image site volume view id streams.Order lawful h =
 stream-refuted image site volume view id streams.Outside lawful h =
     path-refuted image site volume view (ExtentPlace (id_at view id)) lawful (stream_there image site volume view id (Found streams.Outside) (Found (paths.Fault (ExtentPlace (id_at view id)))) refl h)
 
-refused-inode : (names : Names) (pair : Pair) → record_kind_of pair.key ≡ inode_record → refused names pair ≡ fault_of (read_inode pair)
-unfolding refused
-refused-inode names pair kind =
-    let k : ℕ = record_kind_of pair.key in
-    ap (λ b. cond b (fault_of (read_inode pair))
-    (cond (k == attribute_record) (fault_of (read_attribute pair))
-    (cond (k == sibling_link_record) (fault_of (read_link pair))
-    (cond (k == file_extent_record) (fault_of (read_extent pair)) (cond (k == entry_record) (fault_of (read_entry names pair)) (cond (k == sibling_map_record) (fault_of (read_sibling pair)) None))))))
-    (from-equal k inode_record kind)
-
 value-refuted : (image : List ℕ) (site : Site) (volume : Loaded) (view : View) (id : ℕ) (why : RecFault) → IsLawful image site volume view → IsRefusedInode (view_flat image site volume view) id why → ⊥
 value-refuted image site volume view id why lawful is =
-    let none : refused volume.names is.0 ≡ None = records_read image site volume view lawful.rules.records is.0 is.1.one in
-    let some : refused volume.names is.0 ≡ Some why = refused-inode volume.names is.0 is.1.kind ∙ ap (λ (r : Result Inode RecFault). fault_of r) is.2 in
-    let both : ◌≡◌ {A = Option RecFault} None (Some why) = sym none ∙ some in
-    absurd (let q : ⊥ = cc in q)
+    none-some why (sym (records_read image site volume view lawful.rules.records is.0 is.1.one) ∙ (refused_by volume.names is.0 inode_record is.1.kind ∙ ap (λ (r : Result Inode RecFault). fault_of r) is.2))
 
 -- an id with an inode has a record of it
 fact-if : (pair : Pair) (f : Fact Inode) (b : Bool) (r : Result Inode RecFault) → (record_kind_of pair.key == inode_record) ≡ b → cond b (option_map (told_by pair) (value_of r)) None ≡ Some f → (record_kind_of pair.key ≡ inode_record) × (id_of pair.key ≡ f.id)
 fact-if pair f true (Ok x) test e = (equal-from (record_kind_of pair.key) inode_record test, let s : told_by pair x ≡ f = cc in ap (λ (g : Fact Inode). g.id) s)
-fact-if pair f true (Err why) test e = absurd (let q : ⊥ = cc in q)
-fact-if pair f false r test e = absurd (let q : ⊥ = cc in q)
+fact-if pair f b r test e = absurd (let q : ⊥ = cc in q)
 
 pub inode_recorded : (pairs : List Pair) (id : ℕ) (inode : Inode) → first_for id (inodes_of pairs) ≡ Some inode → HasInode pairs id
 unfolding inodes_of
@@ -147,9 +123,7 @@ stop-free image site volume view id (Stopped (Found (faults.Walk own why))) lawf
 stop-free image site volume view id (Stopped (Found (faults.Value own why))) lawful has there = value-refuted image site volume view own why lawful there.1
 stop-free image site volume view id (Stopped (Found (faults.NoInode own))) lawful has there = there.1.1 (subst (HasInode (view_flat image site volume view)) (sym there.0) has)
 stop-free image site volume view id (Stopped (Unsupported feature block)) lawful has there = featureless_rules lawful.profile image site volume view lawful.ranges feature block there lawful.rules
-stop-free image site volume view id (Stopped ReadFault) lawful has there = tt
-stop-free image site volume view id (Stopped NoMemory) lawful has there = tt
-stop-free image site volume view id WriteFault lawful has there = tt
+stop-free image site volume view id stop lawful has there = tt
 
 -- the items of its tree stop nothing
 pub lawful_free : (image : List ℕ) (site : Site) (volume : Loaded) (view : View) (items : List Wanted) (stop : ExportStop) → IsLawful image site volume view → items ≡ items_in (view_facts image site volume view) → StopsAt image site volume view items stop → IsFailure stop

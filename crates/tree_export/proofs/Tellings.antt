@@ -1,5 +1,5 @@
 -- The items at the places that are told, and the text of what is told.
-use Rattle.std.proofs.Common.{◌≡◌, ℕ, zero, suc, ◌+◌, Bool, true, false, cond, List, [], ◌∷◌, ◌++◌, length, Option, Some, refl, ap, ap₂, sym, ◌∙◌, subst, append_assoc, arith}
+use Rattle.std.proofs.Common.{◌≡◌, ℕ, suc, ◌+◌, Bool, true, false, cond, List, [], ◌∷◌, ◌++◌, length, Option, Some, refl, ap, ap₂, sym, ◌∙◌, append_assoc}
 use Rattle.std.specs.Prelude.{filter, filter_map, slice_get, map, Result, Ok, Err}
 use Rattle.std.specs.List.{cons_option, flat_map}
 use Rattle.apfs_model.specs.Lists.{through, value_of}
@@ -8,7 +8,6 @@ use Rattle.path_search.specs.Places.{root_name}
 use Rattle.path_search.specs.declared.answer.Answer.{Answer}
 use Rattle.path_search.specs.declared.target.Target.{Target}
 use Rattle.view_tree.specs.Tree.{tree}
-use Rattle.blk_folder.specs.Items as folders
 use Rattle.tree_export.specs.Exported.{Wanted, item_of, put_all, items_in, exported, skipped, is_left_out}
 use Rattle.tree_export.specs.Done.{left_out_from, left_out, directory_count, file_count, byte_sum, IsDoneFor}
 use Rattle.tree_export.specs.Texts.{skipped_text, done_text, export_text}

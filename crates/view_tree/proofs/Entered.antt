@@ -7,7 +7,7 @@ use Rattle.apfs_model.proofs.BoolTests.{both-true, left-true, right-true, from-b
 use Rattle.apfs_model.proofs.Searches.{in-append, from-map}
 use Rattle.obj_base.specs.declared.site.Site.{Site}
 use Rattle.obj_base.specs.declared.stop.Stop.{Stop}
-use Rattle.obj_base.specs.declared.stop.Stop.TheVariants.{Found, Unsupported, ReadFault, NoMemory}
+use Rattle.obj_base.specs.declared.stop.Stop.TheVariants.{Found, Unsupported, NoMemory}
 use Rattle.fs_name.specs.declared.naming.Names.{Names}
 use Rattle.fs_record.specs.Inodes.{Inode}
 use Rattle.fs_record.specs.Entries.{Entry}
@@ -112,50 +112,36 @@ told_full facts n rows left whole full so_far =
 
 -- ---- what stops a tree
 pub lack_stop : (facts : Facts) (view : View) (path : List ℕ) (e : Fact Entry) (stop : Stop PathStop) → In e facts.entries → is_reserved e.id ≡ false → IsPlaceKnown facts view e (Err stop) → IsTreeStop facts view path stop
-lack_stop facts view path e (Found (stops.Answer a)) listed counts known = absurd known
 lack_stop facts view path e (Found (stops.Fault fault)) listed counts known = inl (lack_entry facts view e fault listed counts known.0 known.1)
-lack_stop facts view path e (Unsupported feature block) listed counts known = absurd known
-lack_stop facts view path e ReadFault listed counts known = absurd known
 lack_stop facts view path e NoMemory listed counts known = tt
+lack_stop facts view path e stop listed counts known = absurd known
 
 pub stop_known : {T U : Type 0} (facts : Facts) (view : View) (path : List ℕ) (shows : T → U) (wanted : Result U Answer) (stop : Stop PathStop) → IsTreeStop facts view path stop → IsTreeKnown facts view path shows wanted (Err stop)
-stop_known facts view path shows wanted (Found (stops.Answer a)) known = absurd known
 stop_known facts view path shows wanted (Found (stops.Fault fault)) known = known
-stop_known facts view path shows wanted (Unsupported feature block) known = absurd known
-stop_known facts view path shows wanted ReadFault known = absurd known
 stop_known facts view path shows wanted NoMemory known = tt
+stop_known facts view path shows wanted stop known = absurd known
 
 pub path_known : {T U V W : Type 0} (facts : Facts) (view : View) (path : List ℕ) (shows : T → U) (wanted : Result U Answer) (sees : V → W) (whole : Result W Answer) (stop : Stop PathStop) → ((a : Answer) → wanted ≡ Err a → whole ≡ Err a) → IsKnown facts view shows wanted (Err stop) → IsTreeKnown facts view path sees whole (Err stop)
 path_known facts view path shows wanted sees whole (Found (stops.Answer a)) goes known = goes a known
 path_known facts view path shows wanted sees whole (Found (stops.Fault fault)) goes known = inl known
-path_known facts view path shows wanted sees whole (Unsupported feature block) goes known = absurd known
-path_known facts view path shows wanted sees whole ReadFault goes known = absurd known
 path_known facts view path shows wanted sees whole NoMemory goes known = tt
+path_known facts view path shows wanted sees whole stop goes known = absurd known
 
 pub tree_ends : {T U V W : Type 0} (facts : Facts) (view : View) (path : List ℕ) (shows : T → U) (wanted : Result U Answer) (sees : V → W) (whole : Result W Answer) (stop : Stop PathStop) → ((a : Answer) → wanted ≡ Err a → whole ≡ Err a) → IsTreeKnown facts view path shows wanted (Err stop) → IsTreeKnown facts view path sees whole (Err stop)
 tree_ends facts view path shows wanted sees whole (Found (stops.Answer a)) goes known = goes a known
-tree_ends facts view path shows wanted sees whole (Found (stops.Fault fault)) goes known = known
-tree_ends facts view path shows wanted sees whole (Unsupported feature block) goes known = absurd known
-tree_ends facts view path shows wanted sees whole ReadFault goes known = absurd known
-tree_ends facts view path shows wanted sees whole NoMemory goes known = tt
+tree_ends facts view path shows wanted sees whole stop goes known = known
 
 pub tree_err : {T U : Type 0} (facts : Facts) (view : View) (path : List ℕ) (shows : T → U) (wanted : Result U Answer) (stop : Stop PathStop) (a : Answer) → IsTreeKnown {T = T} facts view path shows wanted (Err stop) → stop ≡ Found (stops.Answer a) → wanted ≡ Err a
 tree_err {T} facts view path shows wanted stop a known e = subst (λ (s : Stop PathStop). IsTreeKnown {T = T} facts view path shows wanted (Err s)) e known
 
 pub stop_untold : (T : Type 0) (facts : Facts) (view : View) (path : List ℕ) (P : Type 0) (stop : Stop PathStop) → IsTreeStop facts view path stop → WhereTold {T = T} P (Err stop)
 stop_untold T facts view path P (Found (stops.Answer a)) known = absurd known
-stop_untold T facts view path P (Found (stops.Fault fault)) known = tt
-stop_untold T facts view path P (Unsupported feature block) known = tt
-stop_untold T facts view path P ReadFault known = tt
-stop_untold T facts view path P NoMemory known = tt
+stop_untold T facts view path P stop known = tt
 
 pub tree_rests : {T U : Type 0} (facts : Facts) (view : View) (path : List ℕ) (shows : T → U) (wanted : Result U Answer) (needs : Type 0) (result : Result T (Stop PathStop)) → IsTreeKnown facts view path shows wanted result → WhereTold needs result → RestsOn shows wanted needs result
 tree_rests facts view path shows wanted needs (Ok x) known h = (known, h)
 tree_rests facts view path shows wanted needs (Err (Found (stops.Answer a))) known h = (known, h)
-tree_rests facts view path shows wanted needs (Err (Found (stops.Fault fault))) known h = tt
-tree_rests facts view path shows wanted needs (Err (Unsupported feature block)) known h = tt
-tree_rests facts view path shows wanted needs (Err ReadFault) known h = tt
-tree_rests facts view path shows wanted needs (Err NoMemory) known h = tt
+tree_rests facts view path shows wanted needs result known h = tt
 
 -- ---- the tree of a path
 pub tree_answered : (facts : Facts) (path : List ℕ) (a : Answer) → found facts path ≡ Err a → tree facts path ≡ Err a
@@ -178,18 +164,15 @@ fault-there image site volume view path fault (inl lack) = known_there {T = Plac
 fault-there image site volume view path fault (inr twice) = repeat-there image site volume view path fault twice
 
 pub tree_there : {T U : Type 0} (image : List ℕ) (site : Site) (volume : Loaded) (view : View) (path : List ℕ) (shows : T → U) (wanted : Result U Answer) (stop : Stop PathStop) → IsTreeKnown (view_facts image site volume view) view path shows wanted (Err stop) → IsStopThere image site volume view stop
-tree_there image site volume view path shows wanted (Found (stops.Answer a)) known = tt
 tree_there image site volume view path shows wanted (Found (stops.Fault fault)) known = fault-there image site volume view path fault known
 tree_there image site volume view path shows wanted (Unsupported feature block) known = absurd known
-tree_there image site volume view path shows wanted ReadFault known = tt
-tree_there image site volume view path shows wanted NoMemory known = tt
+tree_there image site volume view path shows wanted stop known = tt
 
 pub tree_given : {T U : Type 0} (image : List ℕ) (site : Site) (volume : Loaded) (view : View) (path : List ℕ) (shows : T → U) (wanted : Result U Answer) (stop : Stop PathStop) → IsLawful image site volume view → IsTreeKnown (view_facts image site volume view) view path shows wanted (Err stop) → IsGiven shows wanted (Err stop)
 tree_given image site volume view path shows wanted (Found (stops.Answer a)) lawful known = known
 tree_given image site volume view path shows wanted (Found (stops.Fault fault)) lawful known = refutes lawful.profile image site volume view lawful.ranges fault (fault-there image site volume view path fault known lawful.profile lawful.ranges) lawful.rules
-tree_given image site volume view path shows wanted (Unsupported feature block) lawful known = absurd known
-tree_given image site volume view path shows wanted ReadFault lawful known = absurd known
 tree_given image site volume view path shows wanted NoMemory lawful known = tt
+tree_given image site volume view path shows wanted stop lawful known = absurd known
 
 fault-told : (facts : Facts) (view : View) (path : List ℕ) (fault : TreeFault) → IsLack facts view fault ⊎ IsRepeat facts view path fault → IsTold facts path fault
 fault-told facts view path fault (inl (inl lack)) = subst (λ (f : TreeFault). IsTold facts path f) (sym lack.2) tt

@@ -10,7 +10,7 @@ use Rattle.view_facts.specs.Stops.{IsOfRecords}
 use Rattle.view_tree.specs.Told.{IsTold}
 use Rattle.view_rules.specs.Listed.{raised}
 use Rattle.bt_cursor.specs.declared.fault.WalkFault.{WalkFault}
-use Rattle.bt_cursor.specs.declared.fault.WalkFault.TheVariants.{Unsound, Unnamed, Order, Counts}
+use Rattle.bt_cursor.specs.declared.fault.WalkFault.TheVariants.{Unsound}
 use Rattle.view_rules.specs.declared.fault.TreeFault.{TreeFault}
 use Rattle.vol_view.specs.declared.volume.View.{View}
 
@@ -52,9 +52,7 @@ told_none facts (suc n) = refl
 -- a fault that a walk over all records names is no DirNames
 walk-told : (view : View) (why : WalkFault) (facts : Facts) (path : List ℕ) → IsTold facts path (raised view why)
 walk-told view (Unsound block why) facts path = tt
-walk-told view (Unnamed oid) facts path = tt
-walk-told view (Order item) facts path = tt
-walk-told view Counts facts path = tt
+walk-told view why facts path = tt
 
 pub records_told : (view : View) (facts : Facts) (path : List ℕ) (fault : TreeFault) → IsOfRecords view fault → IsTold facts path fault
 records_told view facts path fault (inl (why, e)) = subst (λ (f : TreeFault). IsTold facts path f) (sym e) (walk-told view why facts path)

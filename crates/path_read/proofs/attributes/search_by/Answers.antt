@@ -1,12 +1,13 @@
-use Rattle.std.proofs.Common.{◌≡◌, ◌∙◌, List, subst}
+use Rattle.std.proofs.Common.{◌≡◌, ◌∙◌, subst}
 use Rattle.std.specs.Prelude.{IfSome}
-use Rattle.bt_node.specs.Entries.{Pair}
+use Rattle.bt_cursor.specs.Flat.{flat_of}
 use Rattle.bt_cursor.specs.Cursors.{root_of, tree_of}
 use Rattle.fs_record.specs.Facts.{all_for, attributes_of}
 use Rattle.vol_view.specs.Views.{view_tree}
-use Rattle.path_search.proofs.Searched.{flat_at, ordered_at, tells_at}
+use Rattle.path_search.proofs.Searched.{flat_at, tells_at}
+use Rattle.path_search.proofs.Stays.{says_at}
 use Rattle.path_read.specs.Parts.{HasRefused}
-use Rattle.path_search.proofs.Needed.{in_at, if_as}
+use Rattle.path_search.proofs.Needed.{if_as}
 use Rattle.path_search.specs.Parts.{HasKindIn}
 use Rattle.bt_keys.specs.RecordKey.{attribute_record}
 use Rattle.fs_name.specs.declared.naming.Names.{Names}
@@ -14,11 +15,8 @@ use Rattle.path_read.proofs.attributes.search_by.Goals as goal
 
 pub returns-in-Ok-find_attributes-clause-found : goal.returns-in-Ok-find_attributes-clause-found
 returns-in-Ok-find_attributes-clause-found g c image told ordered =
-    let tree = view_tree g.K.TreeKey.shape image c.args.site.now c.args.volume.now c.args.view.now in
-    let here = c.in-Ok-find_attributes.ensures.found image (c.in-Ok.ensures.kept.same_bytes ∙ told) (c.in-Ok.ensures.within image told)
-    (ordered_at g.K.TreeKey.shape (tree_of c.in-Ok.cursor image) tree (root_of c.in-Ok.cursor) c.args.view.now.root_oid (c.in-Ok.ensures.tree image) c.in-Ok.ensures.root ordered) in
-    let same = flat_at (tree_of c.in-Ok.cursor image) tree (root_of c.in-Ok.cursor) c.args.view.now.root_oid (c.in-Ok.ensures.tree image) c.in-Ok.ensures.root in
-    subst (λ (ps : List Pair). IfSome c.in-Ok-find_attributes.run' (λ v. v.items ≡ all_for c.args.id (attributes_of ps))) same here
+    says_at (λ t r. IfSome c.in-Ok-find_attributes.run' (λ v. v.items ≡ all_for c.args.id (attributes_of (flat_of t r)))) c.in-Ok.cursor image (c.in-Ok.ensures.tree image) c.in-Ok.ensures.root ordered
+    (c.in-Ok-find_attributes.ensures.found image (c.in-Ok.ensures.kept.same_bytes ∙ told) (c.in-Ok.ensures.within image told))
 
 pub returns-in-Ok-find_attributes-clause-refused : goal.returns-in-Ok-find_attributes-clause-refused
 returns-in-Ok-find_attributes-clause-refused g c image told none =
@@ -34,7 +32,6 @@ returns-clause-present g c image told =
 pub returns-in-Ok-find_attributes-clause-all : goal.returns-in-Ok-find_attributes-clause-all
 returns-in-Ok-find_attributes-clause-all g c image told ordered =
     let tree = view_tree g.K.TreeKey.shape image c.args.site.now c.args.volume.now c.args.view.now in
-    let here = c.in-Ok-find_attributes.ensures.all image (c.in-Ok.ensures.kept.same_bytes ∙ told) (c.in-Ok.ensures.within image told)
-    (ordered_at g.K.TreeKey.shape (tree_of c.in-Ok.cursor image) tree (root_of c.in-Ok.cursor) c.args.view.now.root_oid (c.in-Ok.ensures.tree image) c.in-Ok.ensures.root ordered) in
     if_as (λ v. (names : Names) → HasKindIn names tree c.args.view.now.root_oid c.args.id attribute_record) (λ v. HasKindIn c.args.volume.now.names tree c.args.view.now.root_oid c.args.id attribute_record) c.in-Ok-find_attributes.run' (λ v h. h c.args.volume.now.names)
-    (in_at (λ t r. IfSome c.in-Ok-find_attributes.run' (λ v. (names : Names) → HasKindIn names t r c.args.id attribute_record)) (tree_of c.in-Ok.cursor image) tree (root_of c.in-Ok.cursor) c.args.view.now.root_oid (c.in-Ok.ensures.tree image) c.in-Ok.ensures.root here)
+    (says_at (λ t r. IfSome c.in-Ok-find_attributes.run' (λ v. (names : Names) → HasKindIn names t r c.args.id attribute_record)) c.in-Ok.cursor image (c.in-Ok.ensures.tree image) c.in-Ok.ensures.root ordered
+    (c.in-Ok-find_attributes.ensures.all image (c.in-Ok.ensures.kept.same_bytes ∙ told) (c.in-Ok.ensures.within image told)))

@@ -1,5 +1,5 @@
 use Rattle.std.proofs.Common.{rules, ◌≡◌, ◌∙◌, List, Some, true, refl, ap, sym, subst}
-use Rattle.std.specs.Prelude.{option_map}
+use Rattle.std.specs.Prelude.{option_map, IfSome}
 use Rattle.bt_node.specs.Entries.{Pair}
 use Rattle.bt_cursor.specs.Flat.{flat_of}
 use Rattle.bt_cursor.specs.Cursors.{root_of, tree_of}
@@ -10,10 +10,10 @@ use Rattle.view_rules.specs.Facts.{Facts, facts_in, inode_at, is_directory}
 use Rattle.path_search.specs.Places.{Place}
 use Rattle.path_search.specs.Found.{entries_in, entry_named}
 use Rattle.path_search.specs.Parts.{whats, HasEntriesIn}
-use Rattle.path_search.proofs.Searched.{some_at, flat_same, ordered_same}
+use Rattle.path_search.proofs.Searched.{some_at}
 use Rattle.path_search.proofs.Known.{step_to, place_there}
 use Rattle.path_search.proofs.Needed.{has_file, step_to_needs}
-use Rattle.path_search.proofs.Stays.{stays_on, stops_on}
+use Rattle.path_search.proofs.Stays.{stays_on, stops_on, says_on}
 use Rattle.path_search.proofs.by_search.go_on.Goals as goal
 
 pub returns-clause-leads : goal.returns-clause-leads
@@ -26,11 +26,9 @@ returns-clause-leads g c image told on ordered =
     let es : entry_named c.args.names c.args.name.now (whats c.in-Some.entries.items) ≡ entry_named c.args.names c.args.name.now (entries_in facts c.args.place.now.id) = run ∙ ap (λ (p : Place). entry_named c.args.names c.args.name.now (entries_in facts p.id)) c.place.view_is in
     let chosen : Some e ≡ entry_named c.args.names c.args.name.now (entries_in facts c.args.place.now.id) =
     sym (ap (option_map (λ entry. entry.now.what)) c.in-Some-2.is) ∙ (c.in_ok-entry.ensures.chosen ∙ (ap (λ (l : List (Fact Entry)). entry_named c.args.names c.args.name.now (whats l)) c.deref.ensures.value ∙ es)) in
-    let same : flat_of (tree_of c.candidates.new.cursor image) (root_of c.candidates.new.cursor) ≡ flat = flat_same (tree_of c.args.cursor.now) (tree_of c.candidates.new.cursor) (root_of c.args.cursor.now) (root_of c.candidates.new.cursor) image c.in-Ok.ensures.stays.tree c.in-Ok.ensures.stays.root in
-    let found = some_at (λ (i : Inode). first_for c.file_id.result (inodes_of (flat_of (tree_of c.candidates.new.cursor image) (root_of c.candidates.new.cursor))) ≡ Some i) c.in-Ok-find_inode.found c.in-Some-found.inode
-    (c.in-Ok-find_inode.ensures.found image (c.in-Ok.ensures.stays.kept.same_bytes ∙ told) (c.in-Ok.ensures.stays.within image told on) (ordered_same g.K.TreeKey.shape (tree_of c.args.cursor.now) (tree_of c.candidates.new.cursor) (root_of c.args.cursor.now) (root_of c.candidates.new.cursor) image c.in-Ok.ensures.stays.tree c.in-Ok.ensures.stays.root ordered)) c.in-Some-found.is in
+    let found = says_on (λ t r. IfSome c.in-Ok-find_inode.found (λ (i : Inode). first_for c.file_id.result (inodes_of (flat_of t r)) ≡ Some i)) c.in-Ok.ensures.stays c.in-Ok-find_inode.ensures.found image told on ordered in
     let inode : inode_at facts e.file_id ≡ Some c.in-Some-found.inode =
-    ap (λ id. first_for id (inodes_of flat)) (sym c.file_id.ensures) ∙ subst (λ (ps : List Pair). first_for c.file_id.result (inodes_of ps) ≡ Some c.in-Some-found.inode) same found in
+    ap (λ id. first_for id (inodes_of flat)) (sym c.file_id.ensures) ∙ some_at (λ (i : Inode). first_for c.file_id.result (inodes_of flat) ≡ Some i) c.in-Ok-find_inode.found c.in-Some-found.inode found c.in-Some-found.is in
     step_to facts c.args.place.now c.args.name.now (entries_in facts c.args.place.now.id) e c.in_ok-next.next directory refl chosen (place_there facts e c.in-Some-found.inode c.in_ok-next.next inode c.in_ok-next.ensures)
 
 pub returns-clause-needs : goal.returns-clause-needs
@@ -44,11 +42,9 @@ returns-clause-needs g c image told on ordered =
     let has = subst (λ (p : Place). HasEntriesIn c.args.names (tree_of c.args.cursor.now image) (root_of c.args.cursor.now) p.id) c.place.view_is all in
     let chosen : Some e ≡ entry_named c.args.names c.args.name.now (entries_in facts c.args.place.now.id) =
     sym (ap (option_map (λ entry. entry.now.what)) c.in-Some-2.is) ∙ (c.in_ok-entry.ensures.chosen ∙ (ap (λ (l : List (Fact Entry)). entry_named c.args.names c.args.name.now (whats l)) c.deref.ensures.value ∙ es)) in
-    let same : flat_of (tree_of c.candidates.new.cursor image) (root_of c.candidates.new.cursor) ≡ flat = flat_same (tree_of c.args.cursor.now) (tree_of c.candidates.new.cursor) (root_of c.args.cursor.now) (root_of c.candidates.new.cursor) image c.in-Ok.ensures.stays.tree c.in-Ok.ensures.stays.root in
-    let found = some_at (λ (i : Inode). first_for c.file_id.result (inodes_of (flat_of (tree_of c.candidates.new.cursor image) (root_of c.candidates.new.cursor))) ≡ Some i) c.in-Ok-find_inode.found c.in-Some-found.inode
-    (c.in-Ok-find_inode.ensures.found image (c.in-Ok.ensures.stays.kept.same_bytes ∙ told) (c.in-Ok.ensures.stays.within image told on) (ordered_same g.K.TreeKey.shape (tree_of c.args.cursor.now) (tree_of c.candidates.new.cursor) (root_of c.args.cursor.now) (root_of c.candidates.new.cursor) image c.in-Ok.ensures.stays.tree c.in-Ok.ensures.stays.root ordered)) c.in-Some-found.is in
+    let found = says_on (λ t r. IfSome c.in-Ok-find_inode.found (λ (i : Inode). first_for c.file_id.result (inodes_of (flat_of t r)) ≡ Some i)) c.in-Ok.ensures.stays c.in-Ok-find_inode.ensures.found image told on ordered in
     let inode : inode_at facts e.file_id ≡ Some c.in-Some-found.inode =
-    ap (λ id. first_for id (inodes_of flat)) (sym c.file_id.ensures) ∙ subst (λ (ps : List Pair). first_for c.file_id.result (inodes_of ps) ≡ Some c.in-Some-found.inode) same found in
+    ap (λ id. first_for id (inodes_of flat)) (sym c.file_id.ensures) ∙ some_at (λ (i : Inode). first_for c.file_id.result (inodes_of flat) ≡ Some i) c.in-Ok-find_inode.found c.in-Some-found.inode found c.in-Some-found.is in
     step_to_needs facts (HasEntriesIn c.args.names (tree_of c.args.cursor.now image) (root_of c.args.cursor.now)) c.args.place.now c.args.name.now (entries_in facts c.args.place.now.id) e has refl chosen (has_file facts e.file_id c.in-Some-found.inode inode)
 
 pub returns-in-Err-find_inode-clause-stays : goal.returns-in-Err-find_inode-clause-stays

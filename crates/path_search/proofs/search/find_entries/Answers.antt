@@ -10,8 +10,7 @@ use Rattle.bt_cursor.proofs.Runs.{left-from, whole-from}
 use Rattle.path_search.specs.Parts.{whats, is_wanted, run_entries, are_whole}
 use Rattle.path_search.proofs.Searched.{entries_at}
 use Rattle.path_search.proofs.Needed.{if_as, entries_there}
-use Rattle.path_search.specs.Stays.{Stays}
-use Rattle.path_search.proofs.Stays.{stays_on, stops_on}
+use Rattle.path_search.proofs.Stays.{stays_by, stays_on, stops_on}
 use Rattle.path_search.proofs.search.find_entries.Goals as goal
 
 pub returns-in-Ok-take_run-clause-found : goal.returns-in-Ok-take_run-clause-found
@@ -34,15 +33,12 @@ returns-in-Ok-take_run-clause-all g c image told on ordered =
 
 pub returns-in-Ok-take_run-clause-stays : goal.returns-in-Ok-take_run-clause-stays
 returns-in-Ok-take_run-clause-stays g c =
-    let one : Stays g.S.BlockSource.bytes g.S.BlockSource.bytes_len g.S.BlockSource.faults c.args.src.now c.seek.new.src c.args.cursor.now c.seek.new.self = record { site = c.in-Ok.ensures.site; root = c.in-Ok.ensures.root; tree = c.in-Ok.ensures.tree; within = c.in-Ok.ensures.within; kept = c.in-Ok.ensures.kept } in
-    stays_on one c.in-Ok-take_run.ensures.stays
+    stays_on (stays_by c.args.cursor.now c.seek.new.self c.in-Ok.ensures.site c.in-Ok.ensures.root c.in-Ok.ensures.tree c.in-Ok.ensures.kept c.in-Ok.ensures.within) c.in-Ok-take_run.ensures.stays
 
 pub returns-in-Err-take_run-clause-stays : goal.returns-in-Err-take_run-clause-stays
 returns-in-Err-take_run-clause-stays g c =
-    let one : Stays g.S.BlockSource.bytes g.S.BlockSource.bytes_len g.S.BlockSource.faults c.args.src.now c.seek.new.src c.args.cursor.now c.seek.new.self = record { site = c.in-Ok.ensures.site; root = c.in-Ok.ensures.root; tree = c.in-Ok.ensures.tree; within = c.in-Ok.ensures.within; kept = c.in-Ok.ensures.kept } in
-    stays_on one c.in-Err-take_run.ensures.stays
+    stays_on (stays_by c.args.cursor.now c.seek.new.self c.in-Ok.ensures.site c.in-Ok.ensures.root c.in-Ok.ensures.tree c.in-Ok.ensures.kept c.in-Ok.ensures.within) c.in-Err-take_run.ensures.stays
 
 pub returns-in-Err-take_run-clause-stops : goal.returns-in-Err-take_run-clause-stops
 returns-in-Err-take_run-clause-stops g c =
-    let one : Stays g.S.BlockSource.bytes g.S.BlockSource.bytes_len g.S.BlockSource.faults c.args.src.now c.seek.new.src c.args.cursor.now c.seek.new.self = record { site = c.in-Ok.ensures.site; root = c.in-Ok.ensures.root; tree = c.in-Ok.ensures.tree; within = c.in-Ok.ensures.within; kept = c.in-Ok.ensures.kept } in
-    stops_on one c.in-Err-take_run.ensures.stops
+    stops_on (stays_by c.args.cursor.now c.seek.new.self c.in-Ok.ensures.site c.in-Ok.ensures.root c.in-Ok.ensures.tree c.in-Ok.ensures.kept c.in-Ok.ensures.within) c.in-Err-take_run.ensures.stops

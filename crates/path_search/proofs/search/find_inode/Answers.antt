@@ -3,8 +3,7 @@ use Rattle.bt_keys.specs.RecordKey.{inode_record}
 use Rattle.bt_cursor.specs.Cursors.{root_of, left_of}
 use Rattle.bt_cursor.proofs.Runs.{left-from}
 use Rattle.path_search.proofs.Searched.{inode_from}
-use Rattle.path_search.specs.Stays.{Stays}
-use Rattle.path_search.proofs.Stays.{stays_on, stops_on}
+use Rattle.path_search.proofs.Stays.{stays_by, stays_on, stops_on}
 use Rattle.path_search.proofs.search.find_inode.Goals as goal
 
 pub returns-in-Ok-next_inode-clause-found : goal.returns-in-Ok-next_inode-clause-found
@@ -14,15 +13,12 @@ returns-in-Ok-next_inode-clause-found g c image told on ordered =
 
 pub returns-in-Ok-next_inode-clause-stays : goal.returns-in-Ok-next_inode-clause-stays
 returns-in-Ok-next_inode-clause-stays g c =
-    let one : Stays g.S.BlockSource.bytes g.S.BlockSource.bytes_len g.S.BlockSource.faults c.args.src.now c.seek.new.src c.args.cursor.now c.seek.new.self = record { site = c.in-Ok.ensures.site; root = c.in-Ok.ensures.root; tree = c.in-Ok.ensures.tree; within = c.in-Ok.ensures.within; kept = c.in-Ok.ensures.kept } in
-    stays_on one c.in-Ok-next_inode.ensures.stays
+    stays_on (stays_by c.args.cursor.now c.seek.new.self c.in-Ok.ensures.site c.in-Ok.ensures.root c.in-Ok.ensures.tree c.in-Ok.ensures.kept c.in-Ok.ensures.within) c.in-Ok-next_inode.ensures.stays
 
 pub returns-in-Err-next_inode-clause-stays : goal.returns-in-Err-next_inode-clause-stays
 returns-in-Err-next_inode-clause-stays g c =
-    let one : Stays g.S.BlockSource.bytes g.S.BlockSource.bytes_len g.S.BlockSource.faults c.args.src.now c.seek.new.src c.args.cursor.now c.seek.new.self = record { site = c.in-Ok.ensures.site; root = c.in-Ok.ensures.root; tree = c.in-Ok.ensures.tree; within = c.in-Ok.ensures.within; kept = c.in-Ok.ensures.kept } in
-    stays_on one c.in-Err-next_inode.ensures.stays
+    stays_on (stays_by c.args.cursor.now c.seek.new.self c.in-Ok.ensures.site c.in-Ok.ensures.root c.in-Ok.ensures.tree c.in-Ok.ensures.kept c.in-Ok.ensures.within) c.in-Err-next_inode.ensures.stays
 
 pub returns-in-Err-next_inode-clause-stops : goal.returns-in-Err-next_inode-clause-stops
 returns-in-Err-next_inode-clause-stops g c =
-    let one : Stays g.S.BlockSource.bytes g.S.BlockSource.bytes_len g.S.BlockSource.faults c.args.src.now c.seek.new.src c.args.cursor.now c.seek.new.self = record { site = c.in-Ok.ensures.site; root = c.in-Ok.ensures.root; tree = c.in-Ok.ensures.tree; within = c.in-Ok.ensures.within; kept = c.in-Ok.ensures.kept } in
-    stops_on one c.in-Err-next_inode.ensures.stops
+    stops_on (stays_by c.args.cursor.now c.seek.new.self c.in-Ok.ensures.site c.in-Ok.ensures.root c.in-Ok.ensures.tree c.in-Ok.ensures.kept c.in-Ok.ensures.within) c.in-Err-next_inode.ensures.stops

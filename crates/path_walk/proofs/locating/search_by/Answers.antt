@@ -1,5 +1,4 @@
-use Rattle.std.proofs.Common.{◌∙◌, List, subst}
-use Rattle.bt_node.specs.Entries.{Pair}
+use Rattle.std.proofs.Common.{◌∙◌, subst}
 use Rattle.bt_cursor.specs.Flat.{flat_of}
 use Rattle.bt_cursor.specs.Cursors.{root_of, tree_of}
 use Rattle.vol_view.specs.Volumes.{Loaded}
@@ -8,27 +7,24 @@ use Rattle.view_rules.specs.Facts.{facts_in}
 use Rattle.path_search.specs.Places.{Place}
 use Rattle.path_search.specs.Found.{found}
 use Rattle.path_search.specs.Parts.{Leads, NeedsIn, WhereLed}
-use Rattle.path_search.proofs.Searched.{flat_at, ordered_at, tells_at}
+use Rattle.path_search.proofs.Searched.{tells_at}
+use Rattle.path_search.proofs.Stays.{says_at}
 use Rattle.path_search.specs.Needs.{PathNeeds}
-use Rattle.path_search.proofs.Needed.{in_at}
 use Rattle.path_walk.proofs.locating.search_by.Goals as goal
 
 pub returns-in-Ok-locate-clause-leads : goal.returns-in-Ok-locate-clause-leads
 returns-in-Ok-locate-clause-leads g c image told ordered =
     let tree = view_tree g.K.TreeKey.shape image c.args.site.now c.args.volume.now c.args.view.now in
-    let here = c.in-Ok-locate.ensures.leads image (c.in-Ok.ensures.kept.same_bytes ∙ told) (c.in-Ok.ensures.within image told)
-    (ordered_at g.K.TreeKey.shape (tree_of c.in-Ok.cursor image) tree (root_of c.in-Ok.cursor) c.args.view.now.root_oid (c.in-Ok.ensures.tree image) c.in-Ok.ensures.root ordered) in
-    let same = flat_at (tree_of c.in-Ok.cursor image) tree (root_of c.in-Ok.cursor) c.args.view.now.root_oid (c.in-Ok.ensures.tree image) c.in-Ok.ensures.root in
     subst (λ (v : Loaded). Leads (λ (p : Place). p) (found (facts_in v.names (flat_of tree c.args.view.now.root_oid)) c.args.path.now) c.in-Ok-locate.onward) c.volume.view_is
-    (subst (λ (ps : List Pair). Leads (λ (p : Place). p) (found (facts_in c.volume.inside.names ps) c.args.path.now) c.in-Ok-locate.onward) same here)
+    (says_at (λ t r. Leads (λ (p : Place). p) (found (facts_in c.volume.inside.names (flat_of t r)) c.args.path.now) c.in-Ok-locate.onward) c.in-Ok.cursor image (c.in-Ok.ensures.tree image) c.in-Ok.ensures.root ordered
+    (c.in-Ok-locate.ensures.leads image (c.in-Ok.ensures.kept.same_bytes ∙ told) (c.in-Ok.ensures.within image told)))
 
 pub returns-in-Ok-locate-clause-needs : goal.returns-in-Ok-locate-clause-needs
 returns-in-Ok-locate-clause-needs g c image told ordered =
     let tree = view_tree g.K.TreeKey.shape image c.args.site.now c.args.volume.now c.args.view.now in
-    let led = c.in-Ok-locate.ensures.needs image (c.in-Ok.ensures.kept.same_bytes ∙ told) (c.in-Ok.ensures.within image told)
-    (ordered_at g.K.TreeKey.shape (tree_of c.in-Ok.cursor image) tree (root_of c.in-Ok.cursor) c.args.view.now.root_oid (c.in-Ok.ensures.tree image) c.in-Ok.ensures.root ordered) in
     subst (λ (v : Loaded). WhereLed (NeedsIn (λ facts has_all. PathNeeds facts has_all c.args.path.now) v.names tree c.args.view.now.root_oid) c.in-Ok-locate.onward) c.volume.view_is
-    (in_at (λ t r. WhereLed (NeedsIn (λ facts has_all. PathNeeds facts has_all c.args.path.now) c.volume.inside.names t r) c.in-Ok-locate.onward) (tree_of c.in-Ok.cursor image) tree (root_of c.in-Ok.cursor) c.args.view.now.root_oid (c.in-Ok.ensures.tree image) c.in-Ok.ensures.root led)
+    (says_at (λ t r. WhereLed (NeedsIn (λ facts has_all. PathNeeds facts has_all c.args.path.now) c.volume.inside.names t r) c.in-Ok-locate.onward) c.in-Ok.cursor image (c.in-Ok.ensures.tree image) c.in-Ok.ensures.root ordered
+    (c.in-Ok-locate.ensures.needs image (c.in-Ok.ensures.kept.same_bytes ∙ told) (c.in-Ok.ensures.within image told)))
 
 pub returns-clause-present : goal.returns-clause-present
 returns-clause-present g c image told =

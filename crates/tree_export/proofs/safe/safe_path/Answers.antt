@@ -1,5 +1,5 @@
 -- A path that is written as it is, or one that was made of its components.
-use Rattle.std.proofs.Common.{◌≡◌, ◌∙◌, ℕ, List, sym, subst}
+use Rattle.std.proofs.Common.{◌≡◌, ℕ, List, sym, subst}
 use Rattle.std.specs.Prelude.{string_bytes}
 use Rattle.tree_export.specs.Safe.{IsSafe, safe_path}
 use Rattle.tree_export.proofs.Safes.{ok_as, ok_has, path_safe}

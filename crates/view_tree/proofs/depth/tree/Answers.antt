@@ -1,7 +1,7 @@
 -- What is said of the rows holds of them as they are told.
 use Rattle.std.proofs.Common.{◌≡◌, ◌∙◌, ℕ, List, Result, Err, Ok, ap, sym, subst, Vec, Global}
 use Rattle.obj_base.specs.declared.stop.Stop.{Stop}
-use Rattle.obj_base.specs.declared.stop.Stop.TheVariants.{Found, Unsupported, ReadFault, NoMemory}
+use Rattle.obj_base.specs.declared.stop.Stop.TheVariants.{Found}
 use Rattle.view_rules.specs.Rules.{view_facts}
 use Rattle.path_search.specs.Calls.{IsGiven}
 use Rattle.path_search.specs.Needs.{RestsOn}
@@ -17,17 +17,11 @@ use Rattle.view_tree.proofs.depth.tree.Goals as goal
 -- what a stop says doesn't depend on what would have been answered
 given-same : (wanted : Result (List (List ℕ × Target)) Answer) (stop : Stop PathStop) → IsGiven {T = List (List ℕ × Target)} (λ rows. rows) wanted (Err stop) → IsGiven {T = Vec (List ℕ × Target) Global} (λ rows. rows.items) wanted (Err stop)
 given-same wanted (Found (stops.Answer a)) given = given
-given-same wanted (Found (stops.Fault fault)) given = given
-given-same wanted (Unsupported feature block) given = given
-given-same wanted ReadFault given = given
-given-same wanted NoMemory given = given
+given-same wanted stop given = given
 
 rests-same : (wanted : Result (List (List ℕ × Target)) Answer) (needs : Type 0) (stop : Stop PathStop) → RestsOn {T = List (List ℕ × Target)} (λ rows. rows) wanted needs (Err stop) → RestsOn {T = Vec (List ℕ × Target) Global} (λ rows. rows.items) wanted needs (Err stop)
 rests-same wanted needs (Found (stops.Answer a)) rests = rests
-rests-same wanted needs (Found (stops.Fault fault)) rests = rests
-rests-same wanted needs (Unsupported feature block) rests = rests
-rests-same wanted needs ReadFault rests = rests
-rests-same wanted needs NoMemory rests = rests
+rests-same wanted needs stop rests = rests
 
 pub returns-in-Err-clause-exact : goal.returns-in-Err-clause-exact
 returns-in-Err-clause-exact g c image told lawful =

@@ -83,13 +83,11 @@ returns-in-Err-clause-needs c facts named r =
 
 pub returns-then-not-is_directory-clause-needs : goal.returns-then-not-is_directory-clause-needs
 returns-then-not-is_directory-clause-needs c facts named r =
-    let empty : IsMemo facts c.args.path.now c.new-memo.result = memo_none facts c.args.path.now c.new-memo.result c.new-memo.ensures.empty in
-    c.in-Ok.ensures.needs facts named r empty
+    c.in-Ok.ensures.needs facts named r (memo_none facts c.args.path.now c.new-memo.result c.new-memo.ensures.empty)
 
 pub returns-in-Ok-rows_below-clause-needs : goal.returns-in-Ok-rows_below-clause-needs
 returns-in-Ok-rows_below-clause-needs c facts named r =
-    let empty : IsMemo facts c.args.path.now c.new-memo.result = memo_none facts c.args.path.now c.new-memo.result c.new-memo.ensures.empty in
-    c.in-Ok.ensures.needs facts named r empty
+    c.in-Ok.ensures.needs facts named r (memo_none facts c.args.path.now c.new-memo.result c.new-memo.ensures.empty)
 
 pub returns-clause-needs : goal.returns-clause-needs
 returns-clause-needs c facts named r =
