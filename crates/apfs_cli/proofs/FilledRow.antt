@@ -1,6 +1,6 @@
 -- What a folder has after a run, by the items of the command.
 use Rattle.std.specs.Prelude.{◌≡◌, ◌⊎◌, ℕ, Bool, true, false, List, [], ◌∷◌, ◌++◌, Option, Some, None, refl}
-use Rattle.std.proofs.Common.{inl, inr, sym, ◌∙◌, ap, subst, arith}
+use Rattle.std.proofs.Common.{inl, inr, sym, ◌∙◌, ap, subst}
 use Rattle.std.proofs.lemmas.List.{append-nil}
 use Rattle.apfs_model.specs.Sink.{Wrote}
 use Rattle.blk_folder.specs.Items.{Item, IsFront}
@@ -14,34 +14,22 @@ use Rattle.tree_export.specs.Exported.{exported}
 use Rattle.cmd_texts.specs.ByCommand.{from_of, takes_folder, lead_of, AreItems, RestsOn}
 use Rattle.cmd_texts.specs.Commands.Export as export
 use Rattle.cmd_texts.specs.Handed.{Looked, Stored}
-use Rattle.cmd_lines.specs.Outcome.{Outcome, Written, Faulty, WrongWords, ReadFailed, WriteFailed, OutOfMemory, Refused, Answered, NoImage, NoFolder, status_of, text_of}
-use Rattle.apfs_cli.specs.Rows.{IsAsked, HasDefinedItems, HasMore, HasFrontMore, IsFilledWith, HasSafeMore, BothWrote}
+use Rattle.cmd_lines.specs.Outcome.{Outcome, Written, OutOfMemory, text_of}
+use Rattle.apfs_cli.specs.Rows.{IsAsked, HasDefinedItems, HasMore, HasFrontMore, IsFilledWith, HasSafeMore}
 use Rattle.cmd_lines.specs.Texts.{IsPrefix}
 use Rattle.cmd_texts.specs.Says.{AreFrontIf, AreItemsBy, FillsBy, FillsOn, IsSame, IsSource, StopsTable, PutFailed, IsUntouched, Ran, Says, CameTo, wrong_words, no_image, no_folder, no_part, ran, no_memory}
-use Rattle.cmd_lines.specs.Words.{Asked, Line, Ring, Info, Volumes, Space, Check, Snapshots, Usage, Ls, Tree, Cat, Xattr, Export, Gen, Format}
+use Rattle.cmd_lines.specs.Words.{Asked, Line, Export}
 use Rattle.cmd_lines.specs.Written.{Sunk}
 use Rattle.cmd_texts.proofs.Fillings.{none_safe}
-use Rattle.apfs_cli.proofs.Statuses.{row, command_ran, part_filled, fills_none, given_source, one_line}
+use Rattle.apfs_cli.proofs.Statuses.{text_row, part_filled, fills_none, given_source, one_line}
 use Rattle.cmd_texts.proofs.Views.{same_view}
 
 -- ---- the items of a command
 
 -- a command that takes no folder has none
 none_there : (command : Asked) (image : List ℕ) (items : List Item) → takes_folder command ≡ false → AreItems command image items → items ≡ []
-none_there Ring image items e are = are
-none_there Info image items e are = are
-none_there Volumes image items e are = are
-none_there Space image items e are = are
-none_there (Check profile) image items e are = are
-none_there (Snapshots volume) image items e are = are
-none_there (Usage volume) image items e are = are
-none_there (Ls checks target) image items e are = are
-none_there (Tree checks target) image items e are = are
-none_there (Cat checks target) image items e are = are
-none_there (Xattr checks target name) image items e are = are
 none_there (Export target) image items e are = absurd Prim.cc
-none_there (Gen n) image items e are = are
-none_there (Format spec) image items e are = are
+none_there command image items e are = are
 
 -- the items of a view are the ones
 one_export : (target : AskedTarget) (image : List ℕ) (a b : List Item) → export.AreItems target image a → export.AreItems target image b → a ≡ b
@@ -51,20 +39,8 @@ one_export target image a b first second =
 
 -- so are those of a command that takes a folder; it rests on nothing
 one_items : (command : Asked) (image : List ℕ) (a b : List Item) → takes_folder command ≡ true → (RestsOn command image → AreItems command image a) → AreItems command image b → a ≡ b
-one_items Ring image a b e first second = absurd Prim.cc
-one_items Info image a b e first second = absurd Prim.cc
-one_items Volumes image a b e first second = absurd Prim.cc
-one_items Space image a b e first second = absurd Prim.cc
-one_items (Check profile) image a b e first second = absurd Prim.cc
-one_items (Snapshots volume) image a b e first second = absurd Prim.cc
-one_items (Usage volume) image a b e first second = absurd Prim.cc
-one_items (Ls checks target) image a b e first second = absurd Prim.cc
-one_items (Tree checks target) image a b e first second = absurd Prim.cc
-one_items (Cat checks target) image a b e first second = absurd Prim.cc
-one_items (Xattr checks target name) image a b e first second = absurd Prim.cc
 one_items (Export target) image a b e first second = one_export target image a b (first tt).1 second.1
-one_items (Gen n) image a b e first second = absurd Prim.cc
-one_items (Format spec) image a b e first second = absurd Prim.cc
+one_items command image a b e first second = absurd Prim.cc
 
 -- ---- the folder
 
@@ -110,20 +86,8 @@ nothing_before (byte ∷ part) before = let e : ◌≡◌ {A = List ℕ} [] ((by
 
 -- a command that takes a folder has no lead
 no_lead : (command : Asked) (part : List ℕ) → takes_folder command ≡ true → IsPrefix part (lead_of command) → part ≡ []
-no_lead Ring part e before = absurd Prim.cc
-no_lead Info part e before = absurd Prim.cc
-no_lead Volumes part e before = absurd Prim.cc
-no_lead Space part e before = absurd Prim.cc
-no_lead (Check profile) part e before = absurd Prim.cc
-no_lead (Snapshots volume) part e before = absurd Prim.cc
-no_lead (Usage volume) part e before = absurd Prim.cc
-no_lead (Ls checks target) part e before = absurd Prim.cc
-no_lead (Tree checks target) part e before = absurd Prim.cc
-no_lead (Cat checks target) part e before = absurd Prim.cc
-no_lead (Xattr checks target name) part e before = absurd Prim.cc
 no_lead (Export target) part e before = nothing_before part before
-no_lead (Gen n) part e before = absurd Prim.cc
-no_lead (Format spec) part e before = absurd Prim.cc
+no_lead command part e before = absurd Prim.cc
 
 -- the folder has all of them more, or nothing was written
 whole_part : (command : Asked) (image part : List ℕ) (source : Looked) (folder : Stored) (items : List Item) → source.bytes ≡ Some image → AreItems command image items → FillsBy command source folder (OutOfMemory part) →
@@ -179,19 +143,9 @@ untouched_front None items same = tt
 untouched_front (Some folder) items same = same_front folder items same
 
 whole_row : (asked : Option Line) (image : Option Looked) (folder : Option Stored) (items : List Item) (result : ℕ) (out err : Sunk) → CameTo asked image folder result out err → HasDefinedItems asked image folder items → result ≡ 0 → HasMore folder items
-whole_row asked image folder items result out err a has e = go (row asked image folder result 0 out err (λ h. omega arith) a e)
-  where
-    go : ((o : Outcome) × (status_of o ≡ 0) × Says asked image folder out o × BothWrote out err o) → HasMore folder items
-    go (Written text, at, says, wrote) = whole_on asked image folder out text has.command has.bytes items has.defined (run_of asked image folder out (Written text) has.command has.bytes has.is (command_ran asked image folder out (Written text) tt says))
-    go (Faulty lead named, at, says, wrote) = absurd (omega arith)
-    go (WrongWords, at, says, wrote) = absurd (omega arith)
-    go (ReadFailed part, at, says, wrote) = absurd (omega arith)
-    go (WriteFailed part, at, says, wrote) = absurd (omega arith)
-    go (OutOfMemory part, at, says, wrote) = absurd (omega arith)
-    go (Refused lead feature block, at, says, wrote) = absurd (omega arith)
-    go (Answered lead answer, at, says, wrote) = absurd (omega arith)
-    go (NoImage, at, says, wrote) = absurd (omega arith)
-    go (NoFolder, at, says, wrote) = absurd (omega arith)
+whole_row asked image folder items result out err a has e =
+    let text = text_row asked image folder result out err a e in
+    whole_on asked image folder out text.0 has.command has.bytes items has.defined (run_of asked image folder out (Written text.0) has.command has.bytes has.is text.1)
 
 front_row : (asked : Option Line) (image : Option Looked) (folder : Option Stored) (items : List Item) (result : ℕ) (out err : Sunk) → CameTo asked image folder result out err → HasDefinedItems asked image folder items → HasFrontMore folder items
 front_row asked image folder items result out err (o, says, ends) has = go says

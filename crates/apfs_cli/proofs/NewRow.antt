@@ -6,10 +6,10 @@ use Rattle.apfs_model.specs.Sink.{Wrote, WrotePart}
 use Rattle.img_format.specs.declared.spec.Spec.{Spec}
 use Rattle.img_format.specs.Fresh.{fresh}
 use Rattle.cmd_lines.specs.declared.named.Named.{Named}
-use Rattle.cmd_lines.specs.declared.named.Named.TheVariants.{InContainer, InUsage, InExport, NoTable, BadTable, NoPartition, PartOutside}
+use Rattle.cmd_lines.specs.declared.named.Named.TheVariants.{InContainer}
 use Rattle.cmd_texts.specs.ByCommand.{IsNamed}
 use Rattle.cmd_texts.specs.Handed.{Looked, made, Stored}
-use Rattle.cmd_lines.specs.Outcome.{Outcome, Written, Faulty, WrongWords, ReadFailed, WriteFailed, OutOfMemory, Refused, Answered, NoImage, NoFolder, status_of, text_of}
+use Rattle.cmd_lines.specs.Outcome.{Outcome, Written, Faulty, ReadFailed, WriteFailed, OutOfMemory, Refused, Answered, status_of, text_of}
 use Rattle.apfs_cli.specs.Rows.{IsNewOrFree}
 use Rattle.cmd_texts.specs.Says.{IsPart, SaysOn, LacksImage, LacksFolder, IsSource, PutFailed, Ran, Says, CameTo, wrong_words, no_image, no_folder, no_part, ran, no_memory}
 use Rattle.cmd_lines.specs.Texts.{IsPrefix}
@@ -37,24 +37,17 @@ new_part spec source part is =
 -- no fault is named
 none_named : (spec : Spec) (named : Named) → IsNamed (Format spec) [] named → ⊥
 none_named spec (InContainer fault) is = is
-none_named spec (InUsage slot xid) is = is
-none_named spec (InExport slot xid id) is = is
-none_named spec NoTable is = is
-none_named spec BadTable is = is
-none_named spec NoPartition is = is
-none_named spec (PartOutside at) is = is
+none_named spec named is = is
 
 new_outcome : (spec : Spec) (failed : Type 0) (o : Outcome) → SaysOn (Format spec) (made []) failed o → IsNewOutcome spec o
 new_outcome spec failed (Written text) says = inl (refl, says.formed)
 new_outcome spec failed (Faulty lead named) says = absurd (none_named spec named (says.1 [] refl).there_is)
-new_outcome spec failed WrongWords says = absurd says
 new_outcome spec failed (ReadFailed part) says = absurd (made_sure [] says.0)
 new_outcome spec failed (WriteFailed part) says = inr (inl refl, new_part spec (made []) part says.1)
 new_outcome spec failed (OutOfMemory part) says = inr (inr refl, new_part spec (made []) part says)
 new_outcome spec failed (Refused lead feature block) says = absurd (says.1 [] refl).there_is
 new_outcome spec failed (Answered lead answer) says = absurd (says.1 [] refl (for_answer answer (Unit {0}) (Unit {0}) (Unit {0}) tt tt tt)).answer_is
-new_outcome spec failed NoImage says = absurd says
-new_outcome spec failed NoFolder says = absurd says
+new_outcome spec failed o says = absurd says
 
 -- ---- the run
 

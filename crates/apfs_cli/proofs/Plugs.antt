@@ -18,12 +18,12 @@ use Rattle.cmd_lines.specs.declared.words.Command.{Command}
 use Rattle.cmd_lines.specs.declared.words.Command.TheVariants as commands
 use Rattle.cmd_texts.specs.ByCommand.{From, HandedIn, Made, Nowhere, from_of, takes_folder, AreItems}
 use Rattle.cmd_texts.specs.Handed.{Looked, LookFailed, OfImage, part_looked, made, Stored, stored_in, IsGivenKept}
-use Rattle.cmd_lines.specs.Outcome.{Outcome, Written, Faulty, WrongWords, ReadFailed, WriteFailed, OutOfMemory, Refused, Answered, NoImage, NoFolder, text_of}
-use Rattle.cmd_texts.specs.Says.{AreItemsIf, AreItemsBy, FillsBy, FillsOn, IsSame, IsUntouched, LacksFrom, LacksStore, IsSourceFrom, IsSource, StopsTable, PutFailed, HasAll, Says, CameTo, wrong_words, no_image, no_folder, no_part, ran, no_memory}
+use Rattle.cmd_lines.specs.Outcome.{Outcome, Written, Faulty, WrongWords, ReadFailed, WriteFailed, OutOfMemory, Refused, NoImage, NoFolder, text_of}
+use Rattle.cmd_texts.specs.Says.{AreItemsIf, AreItemsBy, FillsBy, FillsOn, IsSame, IsUntouched, LacksFrom, LacksStore, IsSourceFrom, IsSource, StopsTable, PutFailed, HasAll, Says, SaysOn, CameTo, wrong_words, no_image, no_folder, no_part, ran, no_memory}
 use Rattle.cmd_texts.specs.Ended.{HasEnded, HasEndedInto, HasMade, HasCome}
 use Rattle.cmd_texts.specs.Seen.{stopped_at_table}
 use Rattle.cmd_lines.specs.Stops.{outcome_of}
-use Rattle.cmd_lines.specs.Words.{Asked, Line, plain_line, Ring, Info, Volumes, Space, Check, Snapshots, Usage, Ls, Tree, Cat, Xattr, Export, Gen, Format}
+use Rattle.cmd_lines.specs.Words.{Asked, Line, plain_line, Export, Gen, Format}
 use Rattle.cmd_lines.specs.Lent.{partition_line, said}
 use Rattle.cmd_lines.specs.Written.{Sunk, Failed}
 use Rattle.cmd_lines.specs.Putting.{IsClosed}
@@ -35,44 +35,20 @@ use Rattle.apfs_cli.proofs.Statuses.{some_part}
 
 pub none_taken : (command : Command) → takes_folder (said command) ≡ false
 none_taken commands.Ring = refl
-none_taken commands.Info = refl
-none_taken commands.Volumes = refl
-none_taken commands.Space = refl
-none_taken (commands.Check profile) = refl
-none_taken (commands.Snapshots volume) = refl
-none_taken (commands.Usage volume) = refl
-none_taken (commands.Ls checks target) = refl
-none_taken (commands.Tree checks target) = refl
-none_taken (commands.Cat checks target) = refl
-none_taken (commands.Xattr checks target name) = refl
+none_taken command = refl
 
 no_items : (command : Asked) (image : List ℕ) → takes_folder command ≡ false → AreItems command image []
-no_items Ring image none = refl
-no_items Info image none = refl
-no_items Volumes image none = refl
-no_items Space image none = refl
-no_items (Check profile) image none = refl
-no_items (Snapshots volume) image none = refl
-no_items (Usage volume) image none = refl
-no_items (Ls checks target) image none = refl
-no_items (Tree checks target) image none = refl
-no_items (Cat checks target) image none = refl
-no_items (Xattr checks target name) image none = refl
 no_items (Export target) image none = absurd Prim.cc
-no_items (Gen n) image none = refl
-no_items (Format spec) image none = refl
+no_items command image none = refl
 
 same_by : (command : Asked) (source : Looked) (folder : Stored) (o : Outcome) → takes_folder command ≡ false → IsSame folder → FillsBy command source folder o
 same_by command source folder (Written text) plain same = none_more command source folder (AreItemsIf command) (λ image rests. no_items command image plain) same
 same_by command source folder (Faulty lead named) plain same = none_more command source folder (λ image added. added ≡ []) (λ image. refl) same
-same_by command source folder WrongWords plain same = same
 same_by command source folder (ReadFailed part) plain same = none_more command source folder (AreItemsBy command part) (λ image. inl (λ rests. no_items command image plain)) same
 same_by command source folder (WriteFailed part) plain same = none_more command source folder (AreItemsBy command part) (λ image. inl (λ rests. no_items command image plain)) same
 same_by command source folder (OutOfMemory part) plain same = none_more command source folder (AreItemsBy command part) (λ image. inl (λ rests. no_items command image plain)) same
 same_by command source folder (Refused lead feature block) plain same = none_more command source folder (λ image added. added ≡ []) (λ image. refl) same
-same_by command source folder (Answered lead answer) plain same = same
-same_by command source folder NoImage plain same = same
-same_by command source folder NoFolder plain same = same
+same_by command source folder o plain same = same
 
 fills_same : (command : Asked) (source : Looked) (folder : Option Stored) (o : Outcome) → takes_folder command ≡ false → IsUntouched folder → FillsOn command source folder o
 fills_same command source None o plain same = tt
@@ -165,69 +141,39 @@ source_plain command from source = let P : From → Type 0 = λ f. IsSourceFrom 
 source_part : (command : Asked) → from_of command ≡ HandedIn → (disk : Looked) (part : Part) → OfImage disk (λ bytes. found_part bytes ≡ Ok part) → IsSource (partition_line command) (Some disk) (part_looked part disk)
 source_part command from disk part found = let P : From → Type 0 = λ f. IsSourceFrom f true (Some disk) (part_looked part disk) in subst P (sym from) (disk, part, refl, found, refl)
 
+-- a command came to an outcome over its source, and to what it put into a folder where it takes one
+over_source : (line : Line) (image : Option Looked) (folder : Option Stored) (source : Looked) (out : Sunk) (o : Outcome) → HasAll line image folder → IsSource line image source → SaysOn line.command source (PutFailed out folder) o →
+    FillsOn line.command source folder o → Says (Some line) image folder out o
+over_source line image folder source out o all is says fills =
+    ran (record { line = line; words = refl; all = all; source = source; source_is = is; says = says; fills = fills })
+
+-- so it did where no folder was handed in
+come_over : (line : Line) (image : Option Looked) (source : Looked) (ended : Result Unit Stopped) (out : Sunk) → HasAll line image None → IsSource line image source → HasEnded line.command source ended out → HasCome (Some line) image None ended out
+come_over line image source ended out all is (part, says, wrote) =
+    let more = says_more line.command source (Failed out) (PutFailed out None) (outcome_of ended part) (λ failed. inl failed) says in
+    (part, over_source line image None source out (outcome_of ended part) all is more tt, wrote)
+
 pub come_plain : (command : Asked) → from_of command ≡ HandedIn → takes_folder command ≡ false → (source : Looked) (ended : Result Unit Stopped) (out : Sunk) → HasEnded command source ended out → HasCome (Some (plain_line command)) (Some source) None ended out
-come_plain command from plain source ended out (part, says, wrote) = (
-  part,
-  ran (record {
-    line = plain_line command;
-    words = refl;
-    all = all_there (plain_line command) source plain;
-    source = source;
-    source_is = source_plain command from source;
-    says = says_more command source (Failed out) (PutFailed out None) (outcome_of ended part) (λ failed. inl failed) says;
-    fills = tt;
-  }),
-  wrote,
-)
+come_plain command from plain source ended out has =
+    come_over (plain_line command) (Some source) source ended out (all_there (plain_line command) source plain) (source_plain command from source) has
 
 pub come_part : (command : Asked) → from_of command ≡ HandedIn → takes_folder command ≡ false → (disk : Looked) (part : Part) (ended : Result Unit Stopped) (out : Sunk) → OfImage disk (λ bytes. found_part bytes ≡ Ok part) → HasEnded command (part_looked part disk) ended out →
     HasCome (Some (partition_line command)) (Some disk) None ended out
-come_part command from plain disk part ended out found (text, says, wrote) = (
-  text,
-  ran (record {
-    line = partition_line command;
-    words = refl;
-    all = all_there (partition_line command) disk plain;
-    source = part_looked part disk;
-    source_is = source_part command from disk part found;
-    says = says_more command (part_looked part disk) (Failed out) (PutFailed out None) (outcome_of ended text) (λ failed. inl failed) says;
-    fills = tt;
-  }),
-  wrote,
-)
+come_part command from plain disk part ended out found has =
+    come_over (partition_line command) (Some disk) (part_looked part disk) ended out (all_there (partition_line command) disk plain) (source_part command from disk part found) has
 
 -- so is what a command came to that fills a folder
 pub come_into : (command : Asked) → from_of command ≡ HandedIn → (source : Looked) (folder : Stored) (ended : Result Unit Stopped) (out : Sunk) → HasEndedInto command source folder ended out →
     HasCome (Some (plain_line command)) (Some source) (Some folder) ended out
-come_into command from source folder ended out (part, says, fills, wrote) = (
-  part,
-  ran (record {
-    line = plain_line command;
-    words = refl;
-    all = all_given (plain_line command) source folder;
-    source = source;
-    source_is = source_plain command from source;
-    says = says;
-    fills = fills;
-  }),
-  wrote,
-)
+come_into command from source folder ended out (part, says, fills, wrote) =
+    let line = plain_line command in
+    (part, over_source line (Some source) (Some folder) source out (outcome_of ended part) (all_given line source folder) (source_plain command from source) says fills, wrote)
 
 pub come_part_into : (command : Asked) → from_of command ≡ HandedIn → (disk : Looked) (part : Part) (folder : Stored) (ended : Result Unit Stopped) (out : Sunk) → OfImage disk (λ bytes. found_part bytes ≡ Ok part) →
     HasEndedInto command (part_looked part disk) folder ended out → HasCome (Some (partition_line command)) (Some disk) (Some folder) ended out
-come_part_into command from disk part folder ended out found (text, says, fills, wrote) = (
-  text,
-  ran (record {
-    line = partition_line command;
-    words = refl;
-    all = all_given (partition_line command) disk folder;
-    source = part_looked part disk;
-    source_is = source_part command from disk part found;
-    says = says;
-    fills = fills;
-  }),
-  wrote,
-)
+come_part_into command from disk part folder ended out found (text, says, fills, wrote) =
+    let line = partition_line command in
+    (text, over_source line (Some disk) (Some folder) (part_looked part disk) out (outcome_of ended text) (all_given line disk folder) (source_part command from disk part found) says fills, wrote)
 
 -- the table stopped the run, and nothing was written
 come_table : (command : Asked) → from_of command ≡ HandedIn → (disk : Looked) (folder : Option Stored) → HasAll (partition_line command) (Some disk) folder → IsUntouched folder → (o : Outcome) → StopsTable disk o → (out : Sunk) →
@@ -289,37 +235,13 @@ pub come_made : (n : ℕ) (made : Option (List ℕ)) (image : Option Looked) (en
 come_made n None image ended out (none, wrote) =
     let P : Result Unit Stopped → Type 0 = λ e. HasCome (Some (plain_line (Gen n))) image None e out in
     subst P (sym none) ([], no_memory refl tt, wrote)
-come_made n (Some bytes) image ended out (part, says, wrote) = (
-  part,
-  ran (record {
-    line = plain_line (Gen n);
-    words = refl;
-    all = record { image_there = λ lacks. lacks; folder_there = λ lacks. lacks };
-    source = made bytes;
-    source_is = (bytes, refl);
-    says = says_more (Gen n) (made bytes) (Failed out) (PutFailed out None) (outcome_of ended part) (λ failed. inl failed) says;
-    fills = tt;
-  }),
-  wrote,
-)
+come_made n (Some bytes) image ended out has = come_over (plain_line (Gen n)) image (made bytes) ended out (record { image_there = λ lacks. lacks; folder_there = λ lacks. lacks }) (bytes, refl) has
 
 -- ---- a command without an image
 
 -- what `format` came to over no bytes
 pub come_new : (spec : Spec) (image : Option Looked) (ended : Result Unit Stopped) (out : Sunk) → HasEnded (Format spec) (made []) ended out → HasCome (Some (plain_line (Format spec))) image None ended out
-come_new spec image ended out (part, says, wrote) = (
-  part,
-  ran (record {
-    line = plain_line (Format spec);
-    words = refl;
-    all = record { image_there = λ lacks. lacks; folder_there = λ lacks. lacks };
-    source = made [];
-    source_is = refl;
-    says = says_more (Format spec) (made []) (Failed out) (PutFailed out None) (outcome_of ended part) (λ failed. inl failed) says;
-    fills = tt;
-  }),
-  wrote,
-)
+come_new spec image ended out has = come_over (plain_line (Format spec)) image (made []) ended out (record { image_there = λ lacks. lacks; folder_there = λ lacks. lacks }) refl has
 
 -- ---- the words
 

@@ -58,7 +58,7 @@ use Rattle.cmd_texts.specs.First.{FaultBy, FeatureBy, PresentBy}
 use Rattle.cmd_texts.specs.Meant.{IsMeant, IsVolumeFault, IsVolumeFeature, IsMeantFault, IsMeantFeature}
 use Rattle.cmd_texts.specs.MeantView.{view_of, IsMeantView}
 use Rattle.cmd_texts.specs.OnView.{IsViewFault, IsNodeFeature, IsFaultOn, IsFeatureOn}
-use Rattle.cmd_lines.specs.Words.{Asked, Ring, Info, Volumes, Space, Check, Snapshots, Usage, Ls, Tree, Cat, Xattr, Export, Gen, Format}
+use Rattle.cmd_lines.specs.Words.{Asked, Ring, Info, Volumes, Space, Snapshots, Ls, Tree, Cat, Xattr, Format}
 use Rattle.cmd_lines.specs.declared.words.Checks.{Checks}
 use Rattle.cmd_lines.specs.declared.words.Checks.TheVariants.{Quick, First}
 use Rattle.cmd_texts.proofs.Ways.{in_heads}
@@ -169,25 +169,12 @@ on_view_feature_there image target feature block (inr view) = node_feature_there
 -- what is told of the space manager is that of the account
 space_same : (seen : Seen) (why : SpaceFault) → of_sweep seen.line.xid (sweeps.Space why) ≡ of_sweep seen.line.xid (of_space seen why)
 space_same seen (spaces.Unnamed within oid) = refl
-space_same seen (spaces.Unsound block why) = refl
-space_same seen spaces.Geometry = refl
-space_same seen (spaces.Cab i) = refl
-space_same seen (spaces.Cib i) = refl
-space_same seen (spaces.Index k) = refl
-space_same seen (spaces.Place block) = refl
-space_same seen spaces.FreeTotal = refl
+space_same seen why = refl
 
 -- so is what is told of the pool and of the free queues
 pool_same : (seen : Seen) (why : PoolFault) → of_sweep seen.line.xid (sweeps.Pool why) ≡ of_sweep seen.line.xid (of_pool seen why)
-pool_same seen (pools.Index i) = refl
-pool_same seen pools.Count = refl
-pool_same seen (pools.Place block) = refl
-pool_same seen (pools.Unnamed oid) = refl
 pool_same seen (pools.Walk root (walks.Unsound block why)) = refl
-pool_same seen (pools.Walk root (walks.Unnamed oid)) = refl
-pool_same seen (pools.Walk root (walks.Order item)) = refl
-pool_same seen (pools.Walk root walks.Counts) = refl
-pool_same seen (pools.Value root item) = refl
+pool_same seen why = refl
 
 manager_fault_there : (profile : Profile) (image : List ℕ) (fault : Fault) → space.IsManagerFault image fault → IsPresent profile image fault
 manager_fault_there profile image fault (seen, why, newest, there, same) =
@@ -230,16 +217,13 @@ fault_there Ring image fault f = λ profile. ring_fault_there profile image faul
 fault_there Info image fault f = λ profile. checkpoint_fault_there profile image fault f
 fault_there Volumes image fault f = λ profile. volumes_fault_there profile image fault f
 fault_there Space image fault f = λ profile. space_fault_there profile image fault f
-fault_there (Check profile) image fault f = f
 fault_there (Snapshots volume) image fault f = λ profile. meant_fault_there profile image volume fault f
-fault_there (Usage volume) image fault f = f
 fault_there (Ls checks target) image fault f = fault_by checks image fault (ls.IsFault target image fault) (on_view_fault_there image (ls.told target.path) target fault) f
 fault_there (Tree checks target) image fault f = fault_by checks image fault (tree.IsFault target image fault) (on_view_fault_there image (tree.told target.path) target fault) f
 fault_there (Cat checks target) image fault f = fault_by checks image fault (cat.IsFault target image fault) (on_view_fault_there image (cat.told target.path) target fault) f
 fault_there (Xattr checks target name) image fault f = fault_by checks image fault (xattr.IsFault target image fault) (on_view_fault_there image (xattr.told target.path) target fault) f
-fault_there (Export target) image fault f = f
-fault_there (Gen n) image fault f = f
 fault_there (Format spec) image fault f = absurd f
+fault_there command image fault f = f
 
 feature_by : (checks : Checks) (image : List ℕ) (feature : Feature) (block : ℕ) (is : Type 0) → (is → container.IsFeature image feature block) → FeatureBy checks image feature block is → container.IsFeature image feature block
 feature_by Quick image feature block is there f = there f
@@ -251,13 +235,10 @@ feature_there Ring image feature block f = inl f.1
 feature_there Info image feature block f = checkpoint_feature_there image feature block f
 feature_there Volumes image feature block f = volumes_feature_there image feature block f
 feature_there Space image feature block f = space_feature_there image feature block f
-feature_there (Check profile) image feature block f = f
 feature_there (Snapshots volume) image feature block f = meant_feature_there image volume feature block f
-feature_there (Usage volume) image feature block f = f
 feature_there (Ls checks target) image feature block f = feature_by checks image feature block (ls.IsFeature target image feature block) (on_view_feature_there image target feature block) f
 feature_there (Tree checks target) image feature block f = feature_by checks image feature block (tree.IsFeature target image feature block) (on_view_feature_there image target feature block) f
 feature_there (Cat checks target) image feature block f = feature_by checks image feature block (cat.IsFeature target image feature block) (on_view_feature_there image target feature block) f
 feature_there (Xattr checks target name) image feature block f = feature_by checks image feature block (xattr.IsFeature target image feature block) (on_view_feature_there image target feature block) f
-feature_there (Export target) image feature block f = f
-feature_there (Gen n) image feature block f = f
 feature_there (Format spec) image feature block f = absurd f
+feature_there command image feature block f = f

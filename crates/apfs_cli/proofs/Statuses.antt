@@ -18,7 +18,7 @@ use Rattle.cmd_lines.specs.Texts.{IsPrefix}
 use Rattle.cmd_lines.specs.Written.{Sunk, Failed, Ends}
 use Rattle.apfs_check.proofs.Numbers.{reported}
 use Rattle.cmd_lines.specs.ReportText.{report_text}
-use Rattle.cmd_lines.specs.Words.{Asked, Line, plain_line, Ring, Info, Volumes, Space, Check, Snapshots, Usage, Ls, Tree, Cat, Xattr, Export, Gen, Format}
+use Rattle.cmd_lines.specs.Words.{Asked, Line, plain_line, Check, Gen}
 use Rattle.cmd_texts.specs.Handed.{Looked, LookFailed, OfImage, made, Stored, StoreFailed}
 use Rattle.cmd_lines.specs.Outcome.{Outcome, Written, Faulty, WrongWords, ReadFailed, WriteFailed, OutOfMemory, Refused, Answered, NoImage, NoFolder, status_of, text_of}
 use Rattle.cmd_texts.specs.ByCommand.{From, HandedIn, Made, Nowhere, from_of, takes_folder, lead_of, IsText, IsNamed, IsAnswer, RestsOn, HasResult, profile_of}
@@ -39,103 +39,52 @@ whole_at result status o out err ends e other =
     elim ends.said [ inl has ↦ (sym has.status_is ∙ e, (ends.text, has.put)) | inr lacks ↦ absurd (other (sym e ∙ lacks.status_is)) ]
 
 -- the outcome of a run, by its status
-pub row : (asked : Option Line) (image : Option Looked) (folder : Option Stored) (result status : ℕ) (out err : Sunk) → (status ≡ 4 → ⊥) → CameTo asked image folder result out err → result ≡ status →
+row : (asked : Option Line) (image : Option Looked) (folder : Option Stored) (result status : ℕ) (out err : Sunk) → (status ≡ 4 → ⊥) → CameTo asked image folder result out err → result ≡ status →
     (o : Outcome) × (status_of o ≡ status) × Says asked image folder out o × BothWrote out err o
 row asked image folder result status out err other (o, says, ends) e =
     let whole = whole_at result status o out err ends e other in
     (o, whole.0, says, whole.1)
 
--- an outcome that only a command comes to
-abbrev pub IsOfCommand : Outcome → Type 0
-IsOfCommand (Written text) = Unit {0}
-IsOfCommand (WriteFailed part) = Unit {0}
-IsOfCommand (Refused lead feature block) = Unit {0}
-IsOfCommand (Answered lead answer) = Unit {0}
-IsOfCommand (Faulty lead named) = ⊥
-IsOfCommand WrongWords = ⊥
-IsOfCommand (ReadFailed part) = ⊥
-IsOfCommand (OutOfMemory part) = ⊥
-IsOfCommand NoImage = ⊥
-IsOfCommand NoFolder = ⊥
+-- what an outcome says of the run, whichever way led to it
+abbrev FactOf : Option Line → Option Looked → Option Stored → Sunk → Outcome → Type 0
+FactOf asked image folder out (Faulty lead named) = RanOrNoPart asked image folder out (Faulty lead named)
+FactOf asked image folder out WrongWords = asked ≡ None
+FactOf asked image folder out (ReadFailed part) = RanOrNoPart asked image folder out (ReadFailed part)
+FactOf asked image folder out (OutOfMemory part) = IsSomePart asked image folder out part
+FactOf asked image folder out NoImage = HasNoImage asked image
+FactOf asked image folder out NoFolder = HasNoFolder asked image folder
+FactOf asked image folder out o = Ran asked image folder out o
 
--- an outcome to which a command comes, or the table of partitions
-abbrev pub IsOfTable : Outcome → Type 0
-IsOfTable (Faulty lead named) = Unit {0}
-IsOfTable (ReadFailed part) = Unit {0}
-IsOfTable (Written text) = ⊥
-IsOfTable (WriteFailed part) = ⊥
-IsOfTable (Refused lead feature block) = ⊥
-IsOfTable (Answered lead answer) = ⊥
-IsOfTable WrongWords = ⊥
-IsOfTable (OutOfMemory part) = ⊥
-IsOfTable NoImage = ⊥
-IsOfTable NoFolder = ⊥
+-- a command came to it
+fact_ran : (asked : Option Line) (image : Option Looked) (folder : Option Stored) (out : Sunk) (o : Outcome) → Ran asked image folder out o → FactOf asked image folder out o
+fact_ran asked image folder out (Faulty lead named) has = inl has
+fact_ran asked image folder out WrongWords has = absurd has.says
+fact_ran asked image folder out (ReadFailed part) has = inl has
+fact_ran asked image folder out (OutOfMemory part) has = inl has
+fact_ran asked image folder out NoImage has = absurd has.says
+fact_ran asked image folder out NoFolder has = absurd has.says
+fact_ran asked image folder out o has = has
 
--- another outcome than one that has a fact
-not_this : (P : Outcome → Type 0) (o other : Outcome) → o ≡ other → P o → (P other → ⊥) → ⊥
-not_this P o other is fact none = none (subst P is fact)
+-- the table of partitions stopped the run with it
+fact_table : (asked : Option Line) (image : Option Looked) (folder : Option Stored) (out : Sunk) (o : Outcome) → HasNoPart asked image folder o → FactOf asked image folder out o
+fact_table asked image folder out o has =
+    let P : Outcome → Type 0 = λ x. HasNoPart asked image folder x → FactOf asked image folder out x in
+    elim has.stops as (λ _. FactOf asked image folder out o) [ inl stops ↦ subst P (sym stops.1) (λ h. inr h) has | inr stops ↦ subst P (sym stops.0) (λ h. inr h) has ]
 
-table_not : (P : Outcome → Type 0) (disk : Looked) (o : Outcome) → P o → ((named : Named) → P (Faulty [] named) → ⊥) → (P (ReadFailed []) → ⊥) → StopsTable disk o → ⊥
-table_not P disk o fact fault read (inl stops) = not_this P o (Faulty [] stops.0) stops.1 fact (fault stops.0)
-table_not P disk o fact fault read (inr stops) = not_this P o (ReadFailed []) stops.0 fact read
-
-pub command_ran : (asked : Option Line) (image : Option Looked) (folder : Option Stored) (out : Sunk) (o : Outcome) → IsOfCommand o → Says asked image folder out o → Ran asked image folder out o
-command_ran asked image folder out o of (wrong_words none is same) = absurd (not_this (λ x. IsOfCommand x) o WrongWords is of (λ a. a))
-command_ran asked image folder out o of (no_image lacks is same) = absurd (not_this (λ x. IsOfCommand x) o NoImage is of (λ a. a))
-command_ran asked image folder out o of (no_folder lacks is same) = absurd (not_this (λ x. IsOfCommand x) o NoFolder is of (λ a. a))
-command_ran asked image folder out o of (no_part has same) = absurd (table_not (λ x. IsOfCommand x) has.disk o of (λ named a. a) (λ a. a) has.stops)
-command_ran asked image folder out o of (ran has) = has
-command_ran asked image folder out o of (no_memory is same) = absurd (not_this (λ x. IsOfCommand x) o (OutOfMemory []) is of (λ a. a))
-
-table_ran : (asked : Option Line) (image : Option Looked) (folder : Option Stored) (out : Sunk) (o : Outcome) → IsOfTable o → Says asked image folder out o → RanOrNoPart asked image folder out o
-table_ran asked image folder out o of (wrong_words none is same) = absurd (not_this (λ x. IsOfTable x) o WrongWords is of (λ a. a))
-table_ran asked image folder out o of (no_image lacks is same) = absurd (not_this (λ x. IsOfTable x) o NoImage is of (λ a. a))
-table_ran asked image folder out o of (no_folder lacks is same) = absurd (not_this (λ x. IsOfTable x) o NoFolder is of (λ a. a))
-table_ran asked image folder out o of (no_part has same) = inr has
-table_ran asked image folder out o of (ran has) = inl has
-table_ran asked image folder out o of (no_memory is same) = absurd (not_this (λ x. IsOfTable x) o (OutOfMemory []) is of (λ a. a))
+fact_of : (asked : Option Line) (image : Option Looked) (folder : Option Stored) (out : Sunk) (o : Outcome) → Says asked image folder out o → FactOf asked image folder out o
+fact_of asked image folder out o (wrong_words none is same) = let P : Outcome → Type 0 = λ x. FactOf asked image folder out x in subst P (sym is) none
+fact_of asked image folder out o (no_image lacks is same) = let P : Outcome → Type 0 = λ x. FactOf asked image folder out x in subst P (sym is) lacks
+fact_of asked image folder out o (no_folder lacks is same) = let P : Outcome → Type 0 = λ x. FactOf asked image folder out x in subst P (sym is) lacks
+fact_of asked image folder out o (no_part has same) = fact_table asked image folder out o has
+fact_of asked image folder out o (ran has) = fact_ran asked image folder out o has
+fact_of asked image folder out o (no_memory is same) = let P : Outcome → Type 0 = λ x. FactOf asked image folder out x in subst P (sym is) (inr (refl, same))
 
 pub text_row : (asked : Option Line) (image : Option Looked) (folder : Option Stored) (result : ℕ) (out err : Sunk) → CameTo asked image folder result out err → result ≡ 0 → HasText asked image folder out err
 text_row asked image folder result out err a e = go (row asked image folder result 0 out err (λ h. omega arith) a e)
   where
     go : ((o : Outcome) × (status_of o ≡ 0) × Says asked image folder out o × BothWrote out err o) → HasText asked image folder out err
-    go (Written text, at, says, wrote) = (text, command_ran asked image folder out (Written text) tt says, wrote)
-    go (Faulty lead named, at, says, wrote) = absurd (omega arith)
-    go (WrongWords, at, says, wrote) = absurd (omega arith)
-    go (ReadFailed part, at, says, wrote) = absurd (omega arith)
-    go (WriteFailed part, at, says, wrote) = absurd (omega arith)
-    go (OutOfMemory part, at, says, wrote) = absurd (omega arith)
-    go (Refused lead feature block, at, says, wrote) = absurd (omega arith)
-    go (Answered lead answer, at, says, wrote) = absurd (omega arith)
-    go (NoImage, at, says, wrote) = absurd (omega arith)
-    go (NoFolder, at, says, wrote) = absurd (omega arith)
-
--- wrong words, want of an image and want of a folder come by themselves
-words_wrong : (asked : Option Line) (image : Option Looked) (folder : Option Stored) (out : Sunk) → Says asked image folder out WrongWords → asked ≡ None
-words_wrong asked image folder out (wrong_words none is same) = none
-words_wrong asked image folder out (no_image lacks is same) = absurd (not_this (λ x. status_of x ≡ status_of WrongWords) WrongWords NoImage is refl (λ a. omega arith))
-words_wrong asked image folder out (no_folder lacks is same) = absurd (not_this (λ x. status_of x ≡ status_of WrongWords) WrongWords NoFolder is refl (λ a. omega arith))
-words_wrong asked image folder out (no_part has same) = absurd (table_not (λ x. status_of x ≡ status_of WrongWords) has.disk WrongWords refl (λ named a. omega arith) (λ a. omega arith) has.stops)
-words_wrong asked image folder out (ran has) = absurd has.says
-words_wrong asked image folder out (no_memory is same) = absurd (not_this (λ x. status_of x ≡ status_of WrongWords) WrongWords (OutOfMemory []) is refl (λ a. omega arith))
-
-image_lacks : (asked : Option Line) (image : Option Looked) (folder : Option Stored) (out : Sunk) → Says asked image folder out NoImage → HasNoImage asked image
-image_lacks asked image folder out (wrong_words none is same) = absurd (not_this (λ x. status_of x ≡ status_of NoImage) NoImage WrongWords is refl (λ a. omega arith))
-image_lacks asked image folder out (no_image lacks is same) = lacks
-image_lacks asked image folder out (no_folder lacks is same) = absurd (not_this (λ x. status_of x ≡ status_of NoImage) NoImage NoFolder is refl (λ a. omega arith))
-image_lacks asked image folder out (no_part has same) = absurd (table_not (λ x. status_of x ≡ status_of NoImage) has.disk NoImage refl (λ named a. omega arith) (λ a. omega arith) has.stops)
-image_lacks asked image folder out (ran has) = absurd has.says
-image_lacks asked image folder out (no_memory is same) = absurd (not_this (λ x. status_of x ≡ status_of NoImage) NoImage (OutOfMemory []) is refl (λ a. omega arith))
-
-folder_lacks : (asked : Option Line) (image : Option Looked) (folder : Option Stored) (out : Sunk) → Says asked image folder out NoFolder → HasNoFolder asked image folder
-folder_lacks asked image folder out (wrong_words none is same) = absurd (not_this (λ x. status_of x ≡ status_of NoFolder) NoFolder WrongWords is refl (λ a. omega arith))
-folder_lacks asked image folder out (no_image lacks is same) = absurd (not_this (λ x. status_of x ≡ status_of NoFolder) NoFolder NoImage is refl (λ a. omega arith))
-folder_lacks asked image folder out (no_folder lacks is same) = lacks
-folder_lacks asked image folder out (no_part has same) = absurd (table_not (λ x. status_of x ≡ status_of NoFolder) has.disk NoFolder refl (λ named a. omega arith) (λ a. omega arith) has.stops)
-folder_lacks asked image folder out (ran has) = absurd has.says
-folder_lacks asked image folder out (no_memory is same) = absurd (not_this (λ x. status_of x ≡ status_of NoFolder) NoFolder (OutOfMemory []) is refl (λ a. omega arith))
-
--- ---- a part of what the command writes
+    go (Written text, at, says, wrote) = (text, fact_of asked image folder out (Written text) says, wrote)
+    go (o, at, says, wrote) = absurd (omega arith)
 
 -- ---- the folder
 
@@ -155,14 +104,12 @@ none_fills command source folder part before f = record { added = f.added; none 
 pub part_fills : (command : Asked) (source : Looked) (folder : Stored) (failed : Type 0) (o : Outcome) → SaysOn command source failed o → FillsBy command source folder o → Fills command source folder (AreItemsBy command (text_of o))
 part_fills command source folder failed (Written text) says f = record { added = f.added; none = f.none; are = λ image told. inl (f.are image told); put = f.put; safe = f.safe }
 part_fills command source folder failed (Faulty lead named) says f = none_fills command source folder lead (lead_prefix command lead says.0) f
-part_fills command source folder failed WrongWords says f = absurd says
 part_fills command source folder failed (ReadFailed part) says f = f
 part_fills command source folder failed (WriteFailed part) says f = f
 part_fills command source folder failed (OutOfMemory part) says f = f
 part_fills command source folder failed (Refused lead feature block) says f = none_fills command source folder lead (lead_prefix command lead says.0) f
 part_fills command source folder failed (Answered lead answer) says f = same_fills command source folder lead (lead_prefix command lead says.0) f
-part_fills command source folder failed NoImage says f = absurd says
-part_fills command source folder failed NoFolder says f = absurd says
+part_fills command source folder failed o says f = absurd says
 
 pub part_filled : (command : Asked) (source : Looked) (folder : Option Stored) (failed : Type 0) (o : Outcome) → SaysOn command source failed o → FillsOn command source folder o → FillsOn command source folder (OutOfMemory (text_of o))
 part_filled command source None failed o says f = tt
@@ -192,10 +139,7 @@ present_in : (command : Asked) (image : List ℕ) (named : Named) → IsNamed co
 present_in command image (InContainer fault) is = fault_there command image fault is
 present_in command image (InUsage slot xid) is = is
 present_in command image (InExport slot xid id) is = is
-present_in command image NoTable is = absurd is
-present_in command image BadTable is = absurd is
-present_in command image NoPartition is = absurd is
-present_in command image (PartOutside at) is = absurd is
+present_in command image named is = absurd is
 
 ran_naming : (asked : Option Line) (image : Option Looked) (folder : Option Stored) (out : Sunk) (lead : List ℕ) (named : Named) → RanOrNoPart asked image folder out (Faulty lead named) →
     RanNaming asked image folder out lead named ⊎ HasNoPart asked image folder (Faulty lead named)
@@ -210,134 +154,62 @@ pub fault_row : (asked : Option Line) (image : Option Looked) (folder : Option S
 fault_row asked image folder result out err a e = go (row asked image folder result 1 out err (λ h. omega arith) a e)
   where
     go : ((o : Outcome) × (status_of o ≡ 1) × Says asked image folder out o × BothWrote out err o) → NamesFault asked image folder out err
-    go (Written text, at, says, wrote) = absurd (omega arith)
-    go (Faulty lead named, at, says, wrote) = (lead, named, ran_naming asked image folder out lead named (table_ran asked image folder out (Faulty lead named) tt says), wrote)
-    go (WrongWords, at, says, wrote) = absurd (omega arith)
-    go (ReadFailed part, at, says, wrote) = absurd (omega arith)
-    go (WriteFailed part, at, says, wrote) = absurd (omega arith)
-    go (OutOfMemory part, at, says, wrote) = absurd (omega arith)
-    go (Refused lead feature block, at, says, wrote) = absurd (omega arith)
-    go (Answered lead answer, at, says, wrote) = absurd (omega arith)
-    go (NoImage, at, says, wrote) = absurd (omega arith)
-    go (NoFolder, at, says, wrote) = absurd (omega arith)
+    go (Faulty lead named, at, says, wrote) = (lead, named, ran_naming asked image folder out lead named (fact_of asked image folder out (Faulty lead named) says), wrote)
+    go (o, at, says, wrote) = absurd (omega arith)
 
 pub usage_row : (asked : Option Line) (image : Option Looked) (folder : Option Stored) (result : ℕ) (out err : Sunk) → CameTo asked image folder result out err → result ≡ 2 → (asked ≡ None) × BothWrote out err WrongWords
 usage_row asked image folder result out err a e = go (row asked image folder result 2 out err (λ h. omega arith) a e)
   where
     go : ((o : Outcome) × (status_of o ≡ 2) × Says asked image folder out o × BothWrote out err o) → (asked ≡ None) × BothWrote out err WrongWords
-    go (Written text, at, says, wrote) = absurd (omega arith)
-    go (Faulty lead named, at, says, wrote) = absurd (omega arith)
-    go (WrongWords, at, says, wrote) = (words_wrong asked image folder out says, wrote)
-    go (ReadFailed part, at, says, wrote) = absurd (omega arith)
-    go (WriteFailed part, at, says, wrote) = absurd (omega arith)
-    go (OutOfMemory part, at, says, wrote) = absurd (omega arith)
-    go (Refused lead feature block, at, says, wrote) = absurd (omega arith)
-    go (Answered lead answer, at, says, wrote) = absurd (omega arith)
-    go (NoImage, at, says, wrote) = absurd (omega arith)
-    go (NoFolder, at, says, wrote) = absurd (omega arith)
+    go (WrongWords, at, says, wrote) = (fact_of asked image folder out WrongWords says, wrote)
+    go (o, at, says, wrote) = absurd (omega arith)
 
 pub read_failed_row : (asked : Option Line) (image : Option Looked) (folder : Option Stored) (result : ℕ) (out err : Sunk) → CameTo asked image folder result out err → result ≡ 3 → SaysReadFailed asked image folder out err
 read_failed_row asked image folder result out err a e = go (row asked image folder result 3 out err (λ h. omega arith) a e)
   where
     go : ((o : Outcome) × (status_of o ≡ 3) × Says asked image folder out o × BothWrote out err o) → SaysReadFailed asked image folder out err
-    go (Written text, at, says, wrote) = absurd (omega arith)
-    go (Faulty lead named, at, says, wrote) = absurd (omega arith)
-    go (WrongWords, at, says, wrote) = absurd (omega arith)
-    go (ReadFailed part, at, says, wrote) = (part, table_ran asked image folder out (ReadFailed part) tt says, wrote)
-    go (WriteFailed part, at, says, wrote) = absurd (omega arith)
-    go (OutOfMemory part, at, says, wrote) = absurd (omega arith)
-    go (Refused lead feature block, at, says, wrote) = absurd (omega arith)
-    go (Answered lead answer, at, says, wrote) = absurd (omega arith)
-    go (NoImage, at, says, wrote) = absurd (omega arith)
-    go (NoFolder, at, says, wrote) = absurd (omega arith)
+    go (ReadFailed part, at, says, wrote) = (part, fact_of asked image folder out (ReadFailed part) says, wrote)
+    go (o, at, says, wrote) = absurd (omega arith)
 
 pub out_of_memory_row : (asked : Option Line) (image : Option Looked) (folder : Option Stored) (result : ℕ) (out err : Sunk) → CameTo asked image folder result out err → result ≡ 5 → SaysOutOfMemory asked image folder out err
 out_of_memory_row asked image folder result out err a e = go (row asked image folder result 5 out err (λ h. omega arith) a e)
   where
     go : ((o : Outcome) × (status_of o ≡ 5) × Says asked image folder out o × BothWrote out err o) → SaysOutOfMemory asked image folder out err
-    go (Written text, at, says, wrote) = absurd (omega arith)
-    go (Faulty lead named, at, says, wrote) = absurd (omega arith)
-    go (WrongWords, at, says, wrote) = absurd (omega arith)
-    go (ReadFailed part, at, says, wrote) = absurd (omega arith)
-    go (WriteFailed part, at, says, wrote) = absurd (omega arith)
-    go (OutOfMemory part, at, says, wrote) = (part, some_part asked image folder out (OutOfMemory part) says, wrote)
-    go (Refused lead feature block, at, says, wrote) = absurd (omega arith)
-    go (Answered lead answer, at, says, wrote) = absurd (omega arith)
-    go (NoImage, at, says, wrote) = absurd (omega arith)
-    go (NoFolder, at, says, wrote) = absurd (omega arith)
+    go (OutOfMemory part, at, says, wrote) = (part, fact_of asked image folder out (OutOfMemory part) says, wrote)
+    go (o, at, says, wrote) = absurd (omega arith)
 
 pub feature_row : (asked : Option Line) (image : Option Looked) (folder : Option Stored) (result : ℕ) (out err : Sunk) → CameTo asked image folder result out err → result ≡ 6 → NamesFeature asked image folder out err
 feature_row asked image folder result out err a e = go (row asked image folder result 6 out err (λ h. omega arith) a e)
   where
     go : ((o : Outcome) × (status_of o ≡ 6) × Says asked image folder out o × BothWrote out err o) → NamesFeature asked image folder out err
-    go (Written text, at, says, wrote) = absurd (omega arith)
-    go (Faulty lead named, at, says, wrote) = absurd (omega arith)
-    go (WrongWords, at, says, wrote) = absurd (omega arith)
-    go (ReadFailed part, at, says, wrote) = absurd (omega arith)
-    go (WriteFailed part, at, says, wrote) = absurd (omega arith)
-    go (OutOfMemory part, at, says, wrote) = absurd (omega arith)
-    go (Refused lead feature block, at, says, wrote) = (lead, feature, block, ran_refusing asked image folder out lead feature block (command_ran asked image folder out (Refused lead feature block) tt says), wrote)
-    go (Answered lead answer, at, says, wrote) = absurd (omega arith)
-    go (NoImage, at, says, wrote) = absurd (omega arith)
-    go (NoFolder, at, says, wrote) = absurd (omega arith)
+    go (Refused lead feature block, at, says, wrote) = (lead, feature, block, ran_refusing asked image folder out lead feature block (fact_of asked image folder out (Refused lead feature block) says), wrote)
+    go (o, at, says, wrote) = absurd (omega arith)
 
 pub answered_row : (asked : Option Line) (image : Option Looked) (folder : Option Stored) (result : ℕ) (out err : Sunk) → CameTo asked image folder result out err → result ≡ 7 → NamesAnswer asked image folder out err
 answered_row asked image folder result out err a e = go (row asked image folder result 7 out err (λ h. omega arith) a e)
   where
     go : ((o : Outcome) × (status_of o ≡ 7) × Says asked image folder out o × BothWrote out err o) → NamesAnswer asked image folder out err
-    go (Written text, at, says, wrote) = absurd (omega arith)
-    go (Faulty lead named, at, says, wrote) = absurd (omega arith)
-    go (WrongWords, at, says, wrote) = absurd (omega arith)
-    go (ReadFailed part, at, says, wrote) = absurd (omega arith)
-    go (WriteFailed part, at, says, wrote) = absurd (omega arith)
-    go (OutOfMemory part, at, says, wrote) = absurd (omega arith)
-    go (Refused lead feature block, at, says, wrote) = absurd (omega arith)
-    go (Answered lead answer, at, says, wrote) = (lead, answer, command_ran asked image folder out (Answered lead answer) tt says, wrote)
-    go (NoImage, at, says, wrote) = absurd (omega arith)
-    go (NoFolder, at, says, wrote) = absurd (omega arith)
+    go (Answered lead answer, at, says, wrote) = (lead, answer, fact_of asked image folder out (Answered lead answer) says, wrote)
+    go (o, at, says, wrote) = absurd (omega arith)
 
 pub absent_row : (asked : Option Line) (image : Option Looked) (folder : Option Stored) (result : ℕ) (out err : Sunk) → CameTo asked image folder result out err → result ≡ 8 → HasNoImage asked image × BothWrote out err NoImage
 absent_row asked image folder result out err a e = go (row asked image folder result 8 out err (λ h. omega arith) a e)
   where
     go : ((o : Outcome) × (status_of o ≡ 8) × Says asked image folder out o × BothWrote out err o) → HasNoImage asked image × BothWrote out err NoImage
-    go (Written text, at, says, wrote) = absurd (omega arith)
-    go (Faulty lead named, at, says, wrote) = absurd (omega arith)
-    go (WrongWords, at, says, wrote) = absurd (omega arith)
-    go (ReadFailed part, at, says, wrote) = absurd (omega arith)
-    go (WriteFailed part, at, says, wrote) = absurd (omega arith)
-    go (OutOfMemory part, at, says, wrote) = absurd (omega arith)
-    go (Refused lead feature block, at, says, wrote) = absurd (omega arith)
-    go (Answered lead answer, at, says, wrote) = absurd (omega arith)
-    go (NoImage, at, says, wrote) = (image_lacks asked image folder out says, wrote)
-    go (NoFolder, at, says, wrote) = absurd (omega arith)
+    go (NoImage, at, says, wrote) = (fact_of asked image folder out NoImage says, wrote)
+    go (o, at, says, wrote) = absurd (omega arith)
 
 pub nowhere_row : (asked : Option Line) (image : Option Looked) (folder : Option Stored) (result : ℕ) (out err : Sunk) → CameTo asked image folder result out err → result ≡ 9 → HasNoFolder asked image folder × BothWrote out err NoFolder
 nowhere_row asked image folder result out err a e = go (row asked image folder result 9 out err (λ h. omega arith) a e)
   where
     go : ((o : Outcome) × (status_of o ≡ 9) × Says asked image folder out o × BothWrote out err o) → HasNoFolder asked image folder × BothWrote out err NoFolder
-    go (Written text, at, says, wrote) = absurd (omega arith)
-    go (Faulty lead named, at, says, wrote) = absurd (omega arith)
-    go (WrongWords, at, says, wrote) = absurd (omega arith)
-    go (ReadFailed part, at, says, wrote) = absurd (omega arith)
-    go (WriteFailed part, at, says, wrote) = absurd (omega arith)
-    go (OutOfMemory part, at, says, wrote) = absurd (omega arith)
-    go (Refused lead feature block, at, says, wrote) = absurd (omega arith)
-    go (Answered lead answer, at, says, wrote) = absurd (omega arith)
-    go (NoImage, at, says, wrote) = absurd (omega arith)
-    go (NoFolder, at, says, wrote) = (folder_lacks asked image folder out says, wrote)
+    go (NoFolder, at, says, wrote) = (fact_of asked image folder out NoFolder says, wrote)
+    go (o, at, says, wrote) = absurd (omega arith)
 
 -- an outcome of status 4 is that of a failed put on the first sink or into the folder
 put_failed : (asked : Option Line) (image : Option Looked) (folder : Option Stored) (out : Sunk) (o : Outcome) → status_of o ≡ 4 → Says asked image folder out o → PutFailed out folder
-put_failed asked image folder out (Written text) e says = absurd (omega arith)
-put_failed asked image folder out (Faulty lead named) e says = absurd (omega arith)
-put_failed asked image folder out WrongWords e says = absurd (omega arith)
-put_failed asked image folder out (ReadFailed part) e says = absurd (omega arith)
-put_failed asked image folder out (WriteFailed part) e says = (command_ran asked image folder out (WriteFailed part) tt says).says.0
-put_failed asked image folder out (OutOfMemory part) e says = absurd (omega arith)
-put_failed asked image folder out (Refused lead feature block) e says = absurd (omega arith)
-put_failed asked image folder out (Answered lead answer) e says = absurd (omega arith)
-put_failed asked image folder out NoImage e says = absurd (omega arith)
-put_failed asked image folder out NoFolder e says = absurd (omega arith)
+put_failed asked image folder out (WriteFailed part) e says = (fact_of asked image folder out (WriteFailed part) says).says.0
+put_failed asked image folder out o e says = absurd (omega arith)
 
 pub write_failed_row : (asked : Option Line) (image : Option Looked) (folder : Option Stored) (result : ℕ) (out err : Sunk) → CameTo asked image folder result out err → result ≡ 4 → HasFailedPut asked image folder out err
 write_failed_row asked image folder result out err (o, says, ends) e = (
@@ -449,13 +321,11 @@ given_source Nowhere p image source bytes given is =
 
 -- no fault of a table is there where bytes are given
 no_fault : (disk : List ℕ) (part : Part) (named : Named) → found_part disk ≡ Ok part → IsTableFault disk named → ⊥
-no_fault disk part (InUsage slot xid) found there = absurd there
-no_fault disk part (InExport slot xid id) found there = absurd there
 no_fault disk part NoTable found there = found_not_faulty disk part gpt.NoTable found there
 no_fault disk part BadTable found there = found_not_faulty disk part gpt.BadTable found there
 no_fault disk part NoPartition found there = found_not_faulty disk part gpt.NoPartition found there
 no_fault disk part (PartOutside at) found there = found_not_faulty disk part (gpt.PartOutside at) found there
-no_fault disk part (InContainer fault) found there = absurd there
+no_fault disk part named found there = absurd there
 
 given_no_fault : (f : From) (p : Bool) (image : Option Looked) (disk : Looked) (bytes : List ℕ) (named : Named) → f ≡ HandedIn → p ≡ true → image ≡ Some disk → IsGivenFrom f p image bytes →
     OfImage disk (λ b. IsTableFault b named) → ⊥
@@ -519,14 +389,12 @@ or_free result status at which (inr failed) = inr (inr (inl failed))
 text_status : (command : Asked) (source : Looked) (failed : Type 0) (o : Outcome) (bytes wanted : List ℕ) → IsOwed command → source.bytes ≡ Some bytes → IsText command bytes wanted → SaysOn command source failed o → IsOrFree (status_of o) 0
 text_status command source failed (Written whole) bytes text owes told defined says = inl refl
 text_status command source failed (Faulty lead named) bytes text owes told defined says = absurd ((says.1 bytes told).none (inl (text, defined)))
-text_status command source failed WrongWords bytes text owes told defined says = absurd says
 text_status command source failed (ReadFailed part) bytes text owes told defined says = inr (inl refl)
 text_status command source failed (WriteFailed part) bytes text owes told defined says = inr (inr (inl refl))
 text_status command source failed (OutOfMemory part) bytes text owes told defined says = inr (inr (inr refl))
 text_status command source failed (Refused lead feature block) bytes text owes told defined says = absurd ((says.1 bytes told).none (inl (text, defined)))
 text_status command source failed (Answered lead answer) bytes text owes told defined says = absurd ((says.1 bytes told (for_answer answer (Unit {0}) (Unit {0}) (RestsOn command bytes) tt tt (owes.text_rests bytes text defined))).none text defined)
-text_status command source failed NoImage bytes text owes told defined says = absurd says
-text_status command source failed NoFolder bytes text owes told defined says = absurd says
+text_status command source failed o bytes text owes told defined says = absurd says
 
 pub whole_row : (asked : Option Line) (image : Option Looked) (folder : Option Stored) (result : ℕ) (out err : Sunk) → CameTo asked image folder result out err → HasDefinedText asked image folder → IsOrFree result 0
 whole_row asked image folder result out err (o, says, ends) has =
@@ -539,14 +407,12 @@ whole_row asked image folder result out err (o, says, ends) has =
 answer_status : (command : Asked) (source : Looked) (failed : Type 0) (o : Outcome) (bytes : List ℕ) (wanted : Answer) → IsOwed command → source.bytes ≡ Some bytes → IsAnswer command bytes wanted → SaysOn command source failed o → IsOrFree (status_of o) 7
 answer_status command source failed (Written text) bytes wanted owes told defined says = absurd (owes.apart bytes text wanted (says.is bytes told (owes.answer_rests bytes wanted defined)) defined)
 answer_status command source failed (Faulty lead named) bytes wanted owes told defined says = absurd ((says.1 bytes told).none (inr (wanted, defined)))
-answer_status command source failed WrongWords bytes wanted owes told defined says = absurd says
 answer_status command source failed (ReadFailed part) bytes wanted owes told defined says = inr (inl refl)
 answer_status command source failed (WriteFailed part) bytes wanted owes told defined says = inr (inr (inl refl))
 answer_status command source failed (OutOfMemory part) bytes wanted owes told defined says = inr (inr (inr refl))
 answer_status command source failed (Refused lead feature block) bytes wanted owes told defined says = absurd ((says.1 bytes told).none (inr (wanted, defined)))
 answer_status command source failed (Answered lead answer) bytes wanted owes told defined says = inl refl
-answer_status command source failed NoImage bytes wanted owes told defined says = absurd says
-answer_status command source failed NoFolder bytes wanted owes told defined says = absurd says
+answer_status command source failed o bytes wanted owes told defined says = absurd says
 
 pub always_answered_row : (asked : Option Line) (image : Option Looked) (folder : Option Stored) (result : ℕ) (out err : Sunk) → CameTo asked image folder result out err → HasDefinedAnswer asked image folder → IsOrFree result 7
 always_answered_row asked image folder result out err (o, says, ends) has =
@@ -559,14 +425,12 @@ always_answered_row asked image folder result out err (o, says, ends) has =
 result_status : (command : Asked) (source : Looked) (failed : Type 0) (o : Outcome) (bytes : List ℕ) → source.bytes ≡ Some bytes → HasResult command bytes → SaysOn command source failed o → IsCleanOrFree (status_of o)
 result_status command source failed (Written text) bytes told has says = inl refl
 result_status command source failed (Faulty lead named) bytes told has says = absurd ((says.1 bytes told).none has)
-result_status command source failed WrongWords bytes told has says = absurd says
 result_status command source failed (ReadFailed part) bytes told has says = inr (inr (inl refl))
 result_status command source failed (WriteFailed part) bytes told has says = inr (inr (inr (inl refl)))
 result_status command source failed (OutOfMemory part) bytes told has says = inr (inr (inr (inr refl)))
 result_status command source failed (Refused lead feature block) bytes told has says = absurd ((says.1 bytes told).none has)
 result_status command source failed (Answered lead answer) bytes told has says = inr (inl refl)
-result_status command source failed NoImage bytes told has says = absurd says
-result_status command source failed NoFolder bytes told has says = absurd says
+result_status command source failed o bytes told has says = absurd says
 
 -- a status of an outcome, or a put of the line failed
 clean_or_free : (result at : ℕ) → IsCleanOrFree at → (result ≡ at) ⊎ (result ≡ 4) → IsCleanOrFree result
@@ -585,14 +449,12 @@ clean_row asked image folder result out err (o, says, ends) has =
 unsound_status : (command : Asked) (source : Looked) (failed : Type 0) (o : Outcome) (bytes : List ℕ) (profile : Profile) → IsOwed command → source.bytes ≡ Some bytes → profile_of command ≡ Some profile → (IsWellFormed profile bytes → ⊥) → SaysOn command source failed o → IsFoundOrFree (status_of o)
 unsound_status command source failed (Written text) bytes profile owes told checks unsound says = absurd (unsound (owes.text_sound profile checks bytes text (says.is bytes told (owes.rests profile checks bytes))))
 unsound_status command source failed (Faulty lead named) bytes profile owes told checks unsound says = inl refl
-unsound_status command source failed WrongWords bytes profile owes told checks unsound says = absurd says
 unsound_status command source failed (ReadFailed part) bytes profile owes told checks unsound says = inr (inr (inl refl))
 unsound_status command source failed (WriteFailed part) bytes profile owes told checks unsound says = inr (inr (inr (inl refl)))
 unsound_status command source failed (OutOfMemory part) bytes profile owes told checks unsound says = inr (inr (inr (inr refl)))
 unsound_status command source failed (Refused lead feature block) bytes profile owes told checks unsound says = inr (inl refl)
 unsound_status command source failed (Answered lead answer) bytes profile owes told checks unsound says = absurd (unsound (owes.answer_sound profile checks bytes answer (says.1 bytes told (for_answer answer (Unit {0}) (Unit {0}) (RestsOn command bytes) tt tt (owes.rests profile checks bytes))).answer_is))
-unsound_status command source failed NoImage bytes profile owes told checks unsound says = absurd says
-unsound_status command source failed NoFolder bytes profile owes told checks unsound says = absurd says
+unsound_status command source failed o bytes profile owes told checks unsound says = absurd says
 
 found_or_free : (result at : ℕ) → IsFoundOrFree at → (result ≡ at) ⊎ (result ≡ 4) → IsFoundOrFree result
 found_or_free result at which (inl e) = let P : ℕ → Type 0 = λ n. IsFoundOrFree n in subst P (sym e) which
@@ -629,8 +491,8 @@ faulty_status asked image folder out o named f (ran has) =
     absurd (found_faulty (from_of f.line.command) f.line.in_partition image f.source has.source f.disk named f.image_from f.wanted f.source_is f.told f.there (subst P one has.source_is))
 faulty_status asked image folder out o named f (no_memory e same) = inr (inr (inr (ap status_of e)))
 
-pub no_part_row : (asked : Option Line) (image : Option Looked) (folder : Option Stored) (result : ℕ) (out err : Sunk) (named : Named) → CameTo asked image folder result out err → HasTableFault asked image folder named → IsOrFree result 1
-no_part_row asked image folder result out err named (o, says, ends) has = or_free result 1 (status_of o) (faulty_status asked image folder out o named has says) (ended_as result o out err ends)
+pub no_part_row : (asked : Option Line) (image : Option Looked) (folder : Option Stored) (result : ℕ) (out err : Sunk) → CameTo asked image folder result out err → (named : Named) → HasTableFault asked image folder named → IsOrFree result 1
+no_part_row asked image folder result out err (o, says, ends) named has = or_free result 1 (status_of o) (faulty_status asked image folder out o named has says) (ended_as result o out err ends)
 
 -- ---- nothing failed
 
@@ -650,14 +512,12 @@ source_sure Nowhere p image source sure is failed = let Q : Looked → Type 0 = 
 undisturbed_on : (command : Asked) (source : Looked) (failed : Type 0) (o : Outcome) → (LookFailed source → ⊥) → (failed → ⊥) → SaysOn command source failed o → IsCompleted (status_of o)
 undisturbed_on command source failed (Written text) sure put says = inl refl
 undisturbed_on command source failed (Faulty lead named) sure put says = inr (inr (inl refl))
-undisturbed_on command source failed WrongWords sure put says = absurd says
 undisturbed_on command source failed (ReadFailed part) sure put says = absurd (sure says.0)
 undisturbed_on command source failed (WriteFailed part) sure put says = absurd (put says.0)
 undisturbed_on command source failed (OutOfMemory part) sure put says = inr (inr (inr (inr refl)))
 undisturbed_on command source failed (Refused lead feature block) sure put says = inr (inr (inr (inl refl)))
 undisturbed_on command source failed (Answered lead answer) sure put says = inr (inl refl)
-undisturbed_on command source failed NoImage sure put says = absurd says
-undisturbed_on command source failed NoFolder sure put says = absurd says
+undisturbed_on command source failed o sure put says = absurd says
 
 put_sure : (out : Sunk) (folder : Option Stored) → (Failed out → ⊥) → (StoreFailed folder → ⊥) → PutFailed out folder → ⊥
 put_sure out folder text store (inl failed) = text failed
@@ -687,20 +547,8 @@ completed_row asked image folder result out err (o, says, ends) u =
 
 -- a command that takes its image from what is handed in writes nothing before it looks
 lead_none : (command : Asked) → from_of command ≡ HandedIn → lead_of command ≡ []
-lead_none Ring e = refl
-lead_none Info e = refl
-lead_none Volumes e = refl
-lead_none Space e = refl
-lead_none (Check profile) e = refl
-lead_none (Snapshots volume) e = refl
-lead_none (Usage volume) e = refl
-lead_none (Ls checks target) e = refl
-lead_none (Tree checks target) e = refl
-lead_none (Cat checks target) e = refl
-lead_none (Xattr checks target name) e = refl
-lead_none (Export target) e = refl
 lead_none (Gen n) e = absurd Prim.cc
-lead_none (Format spec) e = refl
+lead_none command e = refl
 
 lead_of_line : (asked : Option Line) (line : Line) → asked ≡ Some line → lead_in asked ≡ lead_of line.command
 lead_of_line asked line words = ap lead_in words
@@ -748,14 +596,11 @@ none_filled command source folder P e f = nothing_added folder f.added (f.none e
 pub fills_none : (command : Asked) (source : Looked) (folder : Stored) (o : Outcome) → takes_folder command ≡ false → FillsBy command source folder o → IsSame folder
 fills_none command source folder (Written text) e f = none_filled command source folder (AreItemsIf command) e f
 fills_none command source folder (Faulty lead named) e f = none_filled command source folder (λ image added. added ≡ []) e f
-fills_none command source folder WrongWords e f = f
 fills_none command source folder (ReadFailed part) e f = none_filled command source folder (AreItemsBy command part) e f
 fills_none command source folder (WriteFailed part) e f = none_filled command source folder (AreItemsBy command part) e f
 fills_none command source folder (OutOfMemory part) e f = none_filled command source folder (AreItemsBy command part) e f
 fills_none command source folder (Refused lead feature block) e f = none_filled command source folder (λ image added. added ≡ []) e f
-fills_none command source folder (Answered lead answer) e f = f
-fills_none command source folder NoImage e f = f
-fills_none command source folder NoFolder e f = f
+fills_none command source folder o e f = f
 
 sliced_none : (start length : ℕ) (b : Option (List ℕ)) → sliced start length b ≡ None → b ≡ None
 sliced_none start length None e = refl
@@ -796,15 +641,12 @@ filled_by : (asked : Option Line) (image : Option Looked) (result : ℕ) (comman
 filled_by asked image result command source folder (Written text) asks untold e kept f = absurd (kept (asks, inl (inl e)))
 filled_by asked image result command source folder (Faulty lead named) asks untold e kept f =
     elim (stopped_fills command source folder f) as (λ _. IsSame folder) [ inl same ↦ same | inr none ↦ absurd (kept (asks, inr (untold none, inl e))) ]
-filled_by asked image result command source folder WrongWords asks untold e kept f = f
 filled_by asked image result command source folder (ReadFailed part) asks untold e kept f = absurd (kept (asks, inl (inr (inl e))))
 filled_by asked image result command source folder (WriteFailed part) asks untold e kept f = absurd (kept (asks, inl (inr (inr (inl e)))))
 filled_by asked image result command source folder (OutOfMemory part) asks untold e kept f = absurd (kept (asks, inl (inr (inr (inr e)))))
 filled_by asked image result command source folder (Refused lead feature block) asks untold e kept f =
     elim (stopped_fills command source folder f) as (λ _. IsSame folder) [ inl same ↦ same | inr none ↦ absurd (kept (asks, inr (untold none, inr e))) ]
-filled_by asked image result command source folder (Answered lead answer) asks untold e kept f = f
-filled_by asked image result command source folder NoImage asks untold e kept f = f
-filled_by asked image result command source folder NoFolder asks untold e kept f = f
+filled_by asked image result command source folder o asks untold e kept f = f
 
 asks_by : (asked : Option Line) (line : Line) → asked ≡ Some line → takes_folder line.command ≡ true → AsksFolder asked
 asks_by asked line words takes = let P : Option Line → Type 0 = λ a. AsksFolder a in subst P (sym words) takes

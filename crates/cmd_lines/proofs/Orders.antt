@@ -15,7 +15,7 @@ use Rattle.img_format.specs.declared.spec.Spec.{Spec}
 use Rattle.img_format.specs.Names.{IsName}
 use Rattle.img_format.specs.Limits.{most_name, least_blocks, most_blocks}
 use Rattle.img_format.specs.Valid.{IsValid}
-use Rattle.cmd_lines.specs.Words.{Asked, Line, built, line_in, plain_line, command_of, after_gpt, asked_by, asked_of, plain_by, plain_of, new_by, new_of, few, count_said, files_said, gen_files, holdable, blocks_said, is_name, name_said, spec_by, spec_said, new_spec, Ring, Info, Volumes, Space, Check, Snapshots, Usage, Ls, Tree, Cat, Xattr, Export, Gen, Format}
+use Rattle.cmd_lines.specs.Words.{Asked, Line, built, line_in, plain_line, command_of, after_gpt, asked_by, asked_of, plain_by, plain_of, new_by, new_of, few, count_said, files_said, gen_files, holdable, blocks_said, is_name, name_said, spec_by, spec_said, new_spec, Gen, Format}
 
 pub asked_with : (words rest : List (List ℕ)) → Some rest ≡ after_gpt words → option_map (line_in true) (command_of rest) ≡ asked_of words
 unfolding asked_of
@@ -51,14 +51,9 @@ name_tested word some short text = rw (from-upto 1 (length word) some, from-upto
 
 -- a list of five
 pub list_five : {X : Type 0} (xs : List X) (a b c d e : X) → 5 ≤ length xs → length xs < 6 → a ≡ get_or xs 0 a → b ≡ get_or xs 1 b → c ≡ get_or xs 2 c → d ≡ get_or xs 3 d → e ≡ get_or xs 4 e → a ∷ b ∷ c ∷ d ∷ e ∷ [] ≡ xs
-list_five [] a b c d e low high p q r s t = absurd (omega (arith, low))
-list_five (v ∷ []) a b c d e low high p q r s t = absurd (omega (arith, low))
-list_five (v ∷ w ∷ []) a b c d e low high p q r s t = absurd (omega (arith, low))
-list_five (v ∷ w ∷ x ∷ []) a b c d e low high p q r s t = absurd (omega (arith, low))
-list_five (v ∷ w ∷ x ∷ y ∷ []) a b c d e low high p q r s t = absurd (omega (arith, low))
 list_five (v ∷ w ∷ x ∷ y ∷ z ∷ []) a b c d e low high p q r s t =
     let p1 : a ≡ v = p in let q1 : b ≡ w = q in let r1 : c ≡ x = r in let s1 : d ≡ y = s in let t1 : e ≡ z = t in Prim.cc
-list_five (v ∷ w ∷ x ∷ y ∷ z ∷ more ∷ rest) a b c d e low high p q r s t = absurd (omega (arith, high))
+list_five xs a b c d e low high p q r s t = absurd (omega (arith, low, high))
 
 -- the same words say the same
 pub said_same : (a b c d p q r s : List ℕ) → a ≡ p → b ≡ q → c ≡ r → d ≡ s → spec_said a b c d ≡ spec_said p q r s
@@ -66,21 +61,12 @@ said_same a b c d p q r s e f g h = Prim.cc
 
 -- fewer words than five ask for no new container, nor do more
 pub new_few : {X : Type 0} (f : X → List ℕ) (words : List X) → length words < 5 → None ≡ new_spec (map f words)
-new_few f [] low = refl
-new_few f (a ∷ []) low = refl
-new_few f (a ∷ b ∷ []) low = refl
-new_few f (a ∷ b ∷ c ∷ []) low = refl
-new_few f (a ∷ b ∷ c ∷ d ∷ []) low = refl
 new_few f (a ∷ b ∷ c ∷ d ∷ e ∷ rest) low = absurd (omega (arith, low))
+new_few f words low = refl
 
 pub new_many : {X : Type 0} (f : X → List ℕ) (words : List X) → 6 ≤ length words → None ≡ new_spec (map f words)
-new_many f [] high = refl
-new_many f (a ∷ []) high = refl
-new_many f (a ∷ b ∷ []) high = refl
-new_many f (a ∷ b ∷ c ∷ []) high = refl
-new_many f (a ∷ b ∷ c ∷ d ∷ []) high = refl
 new_many f (a ∷ b ∷ c ∷ d ∷ e ∷ []) high = absurd (omega (arith, high))
-new_many f (a ∷ b ∷ c ∷ d ∷ e ∷ more ∷ rest) high = refl
+new_many f words high = refl
 
 -- a text that parses to no identifier
 pub no_identifier : (o : Option (List ℕ)) → ((bytes : List ℕ) → o ≡ Some bytes → false ≡ true) → None ≡ o
@@ -91,20 +77,9 @@ no_identifier (Some bytes) never = let e : false ≡ true = never bytes refl in 
 
 -- an image of few files, or a new container that can be made; the other commands make nothing
 abbrev IsMakeable : Asked → Type 0
-IsMakeable Ring = Unit {0}
-IsMakeable Info = Unit {0}
-IsMakeable Volumes = Unit {0}
-IsMakeable Space = Unit {0}
-IsMakeable (Check profile) = Unit {0}
-IsMakeable (Snapshots volume) = Unit {0}
-IsMakeable (Usage volume) = Unit {0}
-IsMakeable (Ls checks target) = Unit {0}
-IsMakeable (Tree checks target) = Unit {0}
-IsMakeable (Cat checks target) = Unit {0}
-IsMakeable (Xattr checks target name) = Unit {0}
-IsMakeable (Export target) = Unit {0}
 IsMakeable (Gen n) = n ≤ 20000
 IsMakeable (Format spec) = IsValid spec
+IsMakeable command = Unit {0}
 
 abbrev AsksMakeable : Option Line → Type 0
 AsksMakeable None = Unit {0}
@@ -112,17 +87,7 @@ AsksMakeable (Some line) = IsMakeable line.command
 
 built_makeable : (line : lines.Asked) → IsMakeable (built line)
 built_makeable lines.Ring = tt
-built_makeable lines.Info = tt
-built_makeable lines.Volumes = tt
-built_makeable lines.Space = tt
-built_makeable (lines.Check strict) = tt
-built_makeable (lines.Snapshots volume) = tt
-built_makeable (lines.Usage volume) = tt
-built_makeable (lines.Ls flags target) = tt
-built_makeable (lines.Tree flags target) = tt
-built_makeable (lines.Cat flags target) = tt
-built_makeable (lines.Xattr flags target name) = tt
-built_makeable (lines.Export target) = tt
+built_makeable line = tt
 
 line_makeable : (p : Bool) (line : Option lines.Asked) → AsksMakeable (option_map (line_in p) (option_map built line))
 line_makeable p None = tt
@@ -151,10 +116,8 @@ named_few true word = counted_few (count_said word)
 named_few false word = tt
 
 files_few : (words : List (List ℕ)) → AreFew (gen_files words)
-files_few [] = tt
-files_few (command ∷ []) = tt
 files_few (command ∷ count ∷ []) = named_few (bytes_eq command (codes "gen")) count
-files_few (command ∷ count ∷ more ∷ rest) = tt
+files_few words = tt
 
 -- ---- a new container that can be made
 
@@ -230,11 +193,8 @@ IsNew None = Unit {0}
 IsNew (Some spec) = IsValid spec
 
 new_parts : (blocks : Option ℕ) (name container volume : Option (List ℕ)) → AreHeld blocks → IsNamed name → IsIdentifier container → IsIdentifier volume → IsNew (spec_by blocks name container volume)
-new_parts None name container volume b n c v = tt
-new_parts (Some blocks) None container volume b n c v = tt
-new_parts (Some blocks) (Some name) None volume b n c v = tt
-new_parts (Some blocks) (Some name) (Some container) None b n c v = tt
 new_parts (Some blocks) (Some name) (Some container) (Some volume) b n c v = record { least = b.0; most = b.1; name = n; container = c; volume = v }
+new_parts blocks name container volume b n c v = tt
 
 said_new : (blocks name container volume : List ℕ) → IsNew (spec_said blocks name container volume)
 said_new blocks name container volume =
@@ -246,13 +206,8 @@ named_new true spec is = is
 named_new false spec is = tt
 
 spec_new : (words : List (List ℕ)) → IsNew (new_spec words)
-spec_new [] = tt
-spec_new (command ∷ []) = tt
-spec_new (command ∷ a ∷ []) = tt
-spec_new (command ∷ a ∷ b ∷ []) = tt
-spec_new (command ∷ a ∷ b ∷ c ∷ []) = tt
 spec_new (command ∷ blocks ∷ name ∷ container ∷ volume ∷ []) = named_new (bytes_eq command (codes "format")) (spec_said blocks name container volume) (said_new blocks name container volume)
-spec_new (command ∷ a ∷ b ∷ c ∷ d ∷ more ∷ rest) = tt
+spec_new words = tt
 
 -- ---- all lines
 

@@ -6,7 +6,7 @@ use Rattle.std.specs.List.{flat_map}
 use Rattle.apfs_model.specs.Counts.{Rose}
 use Rattle.apfs_model.specs.Sink.{Wrote, WrotePart}
 use Rattle.cmd_lines.specs.declared.stopped.Stopped.{Stopped}
-use Rattle.cmd_lines.specs.declared.stopped.Stopped.TheVariants.{Faulty, WrongWords, ReadFailed, WriteFailed, OutOfMemory, Refused, Answered, NoImage, NoFolder}
+use Rattle.cmd_lines.specs.declared.stopped.Stopped.TheVariants.{WriteFailed, OutOfMemory}
 use Rattle.cmd_lines.specs.Texts.{IsPrefix}
 use Rattle.cmd_lines.specs.Written.{Sunk}
 use Rattle.cmd_lines.specs.Putting.{CutsText, IsPut, Passes}
@@ -41,15 +41,9 @@ rose_later a b c le rose = omega (arith, le, rose)
 -- what cuts a text short cuts a longer one short
 cut_later : (stopped : Stopped) (old mid new : Option (List ℕ)) (a b c : ℕ) → a ≤ b →
     CutsText stopped (record { old = mid; new = new; old_faults = b; new_faults = c }) → CutsText stopped (record { old = old; new = new; old_faults = a; new_faults = c })
-cut_later (Faulty named) old mid new a b c le cut = absurd cut
-cut_later WrongWords old mid new a b c le cut = absurd cut
-cut_later ReadFailed old mid new a b c le cut = absurd cut
 cut_later WriteFailed old mid new a b c le cut = rose_later a b c le cut
 cut_later OutOfMemory old mid new a b c le cut = tt
-cut_later (Refused feature block) old mid new a b c le cut = absurd cut
-cut_later (Answered answer) old mid new a b c le cut = absurd cut
-cut_later NoImage old mid new a b c le cut = absurd cut
-cut_later NoFolder old mid new a b c le cut = absurd cut
+cut_later stopped old mid new a b c le cut = absurd cut
 
 -- a text is put after another
 pub put_after : (first second : List ℕ) (result : Result Unit Stopped) (old mid new : Option (List ℕ)) (a b c : ℕ) →

@@ -30,14 +30,14 @@ use Rattle.cmd_texts.specs.Commands.Xattr as xattr
 use Rattle.cmd_texts.specs.Commands.Gen as gen
 use Rattle.cmd_texts.specs.Formed.{IsFormed}
 use Rattle.cmd_texts.specs.Handed.{Looked, OfImage, looked}
-use Rattle.cmd_lines.specs.Outcome.{Outcome, Written, Faulty, WrongWords, ReadFailed, WriteFailed, OutOfMemory, Refused, Answered, NoImage, NoFolder}
+use Rattle.cmd_lines.specs.Outcome.{Outcome, Written, Faulty, ReadFailed, WriteFailed, OutOfMemory, Refused, Answered}
 use Rattle.cmd_texts.specs.Reached.{IsClean, IsWhileLooking, TellsFlaw}
 use Rattle.cmd_lines.specs.ReportText.{report_text}
 use Rattle.cmd_texts.specs.Says.{BeginsText, BeginsForm, IsPart, IsReadPart, IsTextIf, StopsAt, AnswersAt, SaysOn}
 use Rattle.cmd_texts.specs.Ended.{HasEnded}
 use Rattle.cmd_lines.specs.Stops.{outcome_of, stopped_at}
 use Rattle.cmd_lines.specs.Texts.{IsPrefix}
-use Rattle.cmd_lines.specs.Words.{Asked, Ring, Info, Volumes, Space, Check, Snapshots, Usage, Ls, Tree, Cat, Xattr, Export, Gen, Format}
+use Rattle.cmd_lines.specs.Words.{Asked, Check, Usage, Ls, Tree, Cat, Xattr, Export, Gen, Format}
 use Rattle.cmd_lines.specs.Written.{Sunk, Failed}
 use Rattle.cmd_texts.proofs.Browsable.{well_lawful, well_wanted}
 use Rattle.cmd_texts.proofs.ByAnswers.{for_answer}
@@ -107,15 +107,13 @@ says_after profile plain after source failed (Written text) a well says =
     record { formed = a.formed text says.formed; is = λ image told. text_after profile plain after image text a (well image told) (says.is image told) }
 says_after profile plain after source failed (Faulty lead named) a well says =
     (says.0 ∙ a.lead_is, λ image told. stops_after profile plain after image (IsNamed plain image named) (IsNamed after image named) a (well image told) (says.1 image told))
-says_after profile plain after source failed WrongWords a well says = says
 says_after profile plain after source failed (ReadFailed part) a well says = (says.0, read_after profile plain after source part a well says.1)
 says_after profile plain after source failed (WriteFailed part) a well says = (says.0, part_after profile plain after source part a well says.1)
 says_after profile plain after source failed (OutOfMemory part) a well says = part_after profile plain after source part a well says
 says_after profile plain after source failed (Refused lead feature block) a well says =
     (says.0 ∙ a.lead_is, λ image told. stops_after profile plain after image (IsFeature plain image feature block) (IsFeature after image feature block) a (well image told) (says.1 image told))
 says_after profile plain after source failed (Answered lead answer) a well says = (says.0 ∙ a.lead_is, λ image told. answers_after profile plain after image answer a (well image told) (says.1 image told))
-says_after profile plain after source failed NoImage a well says = says
-says_after profile plain after source failed NoFolder a well says = says
+says_after profile plain after source failed o a well says = says
 
 ended_after : (profile : Profile) (plain after : Asked) (source : Looked) (ended : Result Unit Stopped) (out : Sunk) → IsAfter profile plain after → IsWell profile source → HasEnded plain source ended out → HasEnded after source ended out
 ended_after profile plain after source ended out a well (part, says, wrote) = (part, says_after profile plain after source (Failed out) (outcome_of ended part) a well says, wrote)
@@ -187,12 +185,6 @@ at_profile asked profile image e w =
 
 -- of a well-formed container a command that checks it has a text or an answer
 pub sound_result : (command : Asked) (profile : Profile) (image : List ℕ) → profile_of command ≡ Some profile → IsWellFormed profile image → HasResult command image
-sound_result Ring profile image e w = absurd Prim.cc
-sound_result Info profile image e w = absurd Prim.cc
-sound_result Volumes profile image e w = absurd Prim.cc
-sound_result Space profile image e w = absurd Prim.cc
-sound_result (Snapshots volume) profile image e w = absurd Prim.cc
-sound_result (Format spec) profile image e w = absurd Prim.cc
 sound_result (Check asked) profile image e w =
     let right : IsWellFormed asked image = at_profile asked profile image e w in
     let told = reported asked image right in
@@ -203,51 +195,40 @@ sound_result (Gen n) profile image e w =
     let right : IsWellFormed Plain image = at_profile Plain profile image e w in
     let told = reported Plain image right in
     inl (gen.lead n ++ report_text told.0, (told.0, record { right = right; report = told.1 }, refl))
-sound_result (Ls Quick target) profile image e w = absurd Prim.cc
 sound_result (Ls (First asked) target) profile image e w = result_after asked (Ls Quick target) (Ls (First asked) target) image (ls_after asked target) (at_profile asked profile image e w)
-sound_result (Tree Quick target) profile image e w = absurd Prim.cc
 sound_result (Tree (First asked) target) profile image e w = result_after asked (Tree Quick target) (Tree (First asked) target) image (tree_after asked target) (at_profile asked profile image e w)
-sound_result (Cat Quick target) profile image e w = absurd Prim.cc
 sound_result (Cat (First asked) target) profile image e w = result_after asked (Cat Quick target) (Cat (First asked) target) image (cat_after asked target) (at_profile asked profile image e w)
-sound_result (Xattr Quick target name) profile image e w = absurd Prim.cc
 sound_result (Xattr (First asked) target name) profile image e w = result_after asked (Xattr Quick target name) (Xattr (First asked) target name) image (xattr_after asked target name) (at_profile asked profile image e w)
+sound_result command profile image e w = absurd Prim.cc
 
 -- a check that was asked for found nothing, and the command came to something without one
 pub clean_ended : (command : Asked) (source : Looked) (ended : Result Unit Stopped) (out : Sunk) → OfImage source (λ image. IsClean (checks_of command) image) →
     HasEnded (quick command) source ended out → HasEnded command source ended out
-clean_ended Ring source ended out clean has = has
-clean_ended Info source ended out clean has = has
-clean_ended Volumes source ended out clean has = has
-clean_ended Space source ended out clean has = has
-clean_ended (Check profile) source ended out clean has = has
-clean_ended (Snapshots volume) source ended out clean has = has
-clean_ended (Usage volume) source ended out clean has = has
-clean_ended (Export target) source ended out clean has = has
-clean_ended (Gen n) source ended out clean has = has
-clean_ended (Format spec) source ended out clean has = has
-clean_ended (Ls Quick target) source ended out clean has = has
 clean_ended (Ls (First profile) target) source ended out clean has =
     ended_after profile (Ls Quick target) (Ls (First profile) target) source ended out (ls_after profile target) clean has
-clean_ended (Tree Quick target) source ended out clean has = has
 clean_ended (Tree (First profile) target) source ended out clean has =
     ended_after profile (Tree Quick target) (Tree (First profile) target) source ended out (tree_after profile target) clean has
-clean_ended (Cat Quick target) source ended out clean has = has
 clean_ended (Cat (First profile) target) source ended out clean has =
     ended_after profile (Cat Quick target) (Cat (First profile) target) source ended out (cat_after profile target) clean has
-clean_ended (Xattr Quick target name) source ended out clean has = has
 clean_ended (Xattr (First profile) target name) source ended out clean has =
     ended_after profile (Xattr Quick target name) (Xattr (First profile) target name) source ended out (xattr_after profile target name) clean has
+clean_ended command source ended out clean has = has
 
 -- ---- the container isn't well-formed
 
--- where a check names something, a command after it has neither a text nor an answer
-clash_fault : (checks : Checks) (image : List ℕ) (fault : Fault) (X : Type 0) → FaultBy checks image fault ⊥ → ResultBy checks image X → ⊥
-clash_fault Quick image fault X flaw is = flaw
-clash_fault (First profile) image fault X flaw is = flawed_refutes profile image (inl (fault, flaw)) is.0
+-- what has a text or an answer after a check has passed it
+passed : (checks : Checks) (image : List ℕ) (X : Type 0) → ResultBy checks image X → ResultBy checks image (Unit {0})
+passed Quick image X is = tt
+passed (First profile) image X is = (is.0, tt)
 
-clash_feature : (checks : Checks) (image : List ℕ) (feature : Feature) (block : ℕ) (X : Type 0) → FeatureBy checks image feature block ⊥ → ResultBy checks image X → ⊥
-clash_feature Quick image feature block X flaw is = flaw
-clash_feature (First profile) image feature block X flaw is = flawed_refutes profile image (inr (feature, (block, flaw))) is.0
+-- where a check names something, nothing has passed it
+clash_fault : (checks : Checks) (image : List ℕ) (fault : Fault) → FaultBy checks image fault ⊥ → ResultBy checks image (Unit {0}) → ⊥
+clash_fault Quick image fault flaw is = flaw
+clash_fault (First profile) image fault flaw is = flawed_refutes profile image (inl (fault, flaw)) is.0
+
+clash_feature : (checks : Checks) (image : List ℕ) (feature : Feature) (block : ℕ) → FeatureBy checks image feature block ⊥ → ResultBy checks image (Unit {0}) → ⊥
+clash_feature Quick image feature block flaw is = flaw
+clash_feature (First profile) image feature block flaw is = flawed_refutes profile image (inr (feature, (block, flaw))) is.0
 
 fault_by : (checks : Checks) (image : List ℕ) (fault : Fault) (X : Type 0) → FaultBy checks image fault ⊥ → FaultBy checks image fault X
 fault_by Quick image fault X flaw = absurd flaw
@@ -267,96 +248,47 @@ pub record IsStoppedBy (checks : Checks) (command : Asked) : Type 0 where
 no_check : (command : Asked) → [] ≡ lead_of command → IsStoppedBy Quick command
 no_check command lead = record { lead_is = lead; fault = λ image fault flaw. absurd flaw; feature = λ image feature block flaw. absurd flaw }
 
--- the check before a command on what is handed in
-pub first_stops : (command : Asked) → from_of command ≡ HandedIn → IsStoppedBy (checks_of command) command
-first_stops Ring e = no_check Ring refl
-first_stops Info e = no_check Info refl
-first_stops Volumes e = no_check Volumes refl
-first_stops Space e = no_check Space refl
-first_stops (Check profile) e = no_check (Check profile) refl
-first_stops (Snapshots volume) e = no_check (Snapshots volume) refl
-first_stops (Usage volume) e = record {
-  lead_is = refl;
-  fault = λ image fault flaw. record {
-    none = no_result (Usage volume) image (λ text is. flawed_refutes Plain image (inl (fault, flaw)) is.0) (λ answer is. flawed_refutes Plain image (inl (fault, flaw)) is.0);
-    there_is = flaw;
+-- what a check names stops a command that has its texts and answers after it, and may name it
+after_check : (checks : Checks) (command : Asked) → [] ≡ lead_of command → ((image text : List ℕ) → IsText command image text → ResultBy checks image (Unit {0})) →
+    ((image : List ℕ) (answer : Answer) → IsAnswer command image answer → ResultBy checks image (Unit {0})) →
+    ((image : List ℕ) (fault : Fault) → FaultBy checks image fault ⊥ → IsFault command image fault) →
+    ((image : List ℕ) (feature : Feature) (block : ℕ) → FeatureBy checks image feature block ⊥ → IsFeature command image feature block) → IsStoppedBy checks command
+after_check checks command lead text answer fault feature = record {
+  lead_is = lead;
+  fault = λ image why flaw. record {
+    none = no_result command image (λ t is. clash_fault checks image why flaw (text image t is)) (λ a is. clash_fault checks image why flaw (answer image a is));
+    there_is = fault image why flaw;
   };
-  feature = λ image feature block flaw. record {
-    none = no_result (Usage volume) image (λ text is. flawed_refutes Plain image (inr (feature, (block, flaw))) is.0) (λ answer is. flawed_refutes Plain image (inr (feature, (block, flaw))) is.0);
-    there_is = flaw;
-  };
-}
-first_stops (Export target) e = record {
-  lead_is = refl;
-  fault = λ image fault flaw. record {
-    none = no_result (Export target) image (λ text is. flawed_refutes Plain image (inl (fault, flaw)) is.0) (λ answer is. flawed_refutes Plain image (inl (fault, flaw)) is.0);
-    there_is = flaw;
-  };
-  feature = λ image feature block flaw. record {
-    none = no_result (Export target) image (λ text is. flawed_refutes Plain image (inr (feature, (block, flaw))) is.0) (λ answer is. flawed_refutes Plain image (inr (feature, (block, flaw))) is.0);
-    there_is = flaw;
-  };
-}
-first_stops (Gen n) e = absurd Prim.cc
-first_stops (Format spec) e = absurd Prim.cc
-first_stops (Ls checks target) e = record {
-  lead_is = refl;
-  fault = λ image fault flaw. record {
-    none = no_result (Ls checks target) image (λ text. clash_fault checks image fault (ls.IsText target image text) flaw) (λ answer. clash_fault checks image fault (ls.IsAnswer target image answer) flaw);
-    there_is = fault_by checks image fault (ls.IsFault target image fault) flaw;
-  };
-  feature = λ image feature block flaw. record {
-    none = no_result (Ls checks target) image (λ text. clash_feature checks image feature block (ls.IsText target image text) flaw) (λ answer. clash_feature checks image feature block (ls.IsAnswer target image answer) flaw);
-    there_is = feature_by checks image feature block (ls.IsFeature target image feature block) flaw;
-  };
-}
-first_stops (Tree checks target) e = record {
-  lead_is = refl;
-  fault = λ image fault flaw. record {
-    none = no_result (Tree checks target) image (λ text. clash_fault checks image fault (tree.IsText target image text) flaw) (λ answer. clash_fault checks image fault (tree.IsAnswer target image answer) flaw);
-    there_is = fault_by checks image fault (tree.IsFault target image fault) flaw;
-  };
-  feature = λ image feature block flaw. record {
-    none = no_result (Tree checks target) image (λ text. clash_feature checks image feature block (tree.IsText target image text) flaw) (λ answer. clash_feature checks image feature block (tree.IsAnswer target image answer) flaw);
-    there_is = feature_by checks image feature block (tree.IsFeature target image feature block) flaw;
-  };
-}
-first_stops (Cat checks target) e = record {
-  lead_is = refl;
-  fault = λ image fault flaw. record {
-    none = no_result (Cat checks target) image (λ text. clash_fault checks image fault (cat.IsText target image text) flaw) (λ answer. clash_fault checks image fault (cat.IsAnswer target image answer) flaw);
-    there_is = fault_by checks image fault (cat.IsFault target image fault) flaw;
-  };
-  feature = λ image feature block flaw. record {
-    none = no_result (Cat checks target) image (λ text. clash_feature checks image feature block (cat.IsText target image text) flaw) (λ answer. clash_feature checks image feature block (cat.IsAnswer target image answer) flaw);
-    there_is = feature_by checks image feature block (cat.IsFeature target image feature block) flaw;
-  };
-}
-first_stops (Xattr checks target name) e = record {
-  lead_is = refl;
-  fault = λ image fault flaw. record {
-    none = no_result (Xattr checks target name) image (λ text. clash_fault checks image fault (xattr.IsText target name image text) flaw) (λ answer. clash_fault checks image fault (xattr.IsAnswer target name image answer) flaw);
-    there_is = fault_by checks image fault (xattr.IsFault target image fault) flaw;
-  };
-  feature = λ image feature block flaw. record {
-    none = no_result (Xattr checks target name) image (λ text. clash_feature checks image feature block (xattr.IsText target name image text) flaw) (λ answer. clash_feature checks image feature block (xattr.IsAnswer target name image answer) flaw);
-    there_is = feature_by checks image feature block (xattr.IsFeature target image feature block) flaw;
+  feature = λ image why block flaw. record {
+    none = no_result command image (λ t is. clash_feature checks image why block flaw (text image t is)) (λ a is. clash_feature checks image why block flaw (answer image a is));
+    there_is = feature image why block flaw;
   };
 }
 
+-- the check before a command on what is handed in
+pub first_stops : (command : Asked) → from_of command ≡ HandedIn → IsStoppedBy (checks_of command) command
+first_stops (Usage volume) e = after_check (First Plain) (Usage volume) refl (λ image text is. (is.0, tt)) (λ image answer is. (is.0, tt)) (λ image fault flaw. flaw) (λ image feature block flaw. flaw)
+first_stops (Export target) e = after_check (First Plain) (Export target) refl (λ image text is. (is.0, tt)) (λ image answer is. (is.0, tt)) (λ image fault flaw. flaw) (λ image feature block flaw. flaw)
+first_stops (Gen n) e = absurd Prim.cc
+first_stops (Format spec) e = absurd Prim.cc
+first_stops (Ls checks target) e =
+    after_check checks (Ls checks target) refl (λ image text. passed checks image (ls.IsText target image text)) (λ image answer. passed checks image (ls.IsAnswer target image answer))
+    (λ image fault. fault_by checks image fault (ls.IsFault target image fault)) (λ image feature block. feature_by checks image feature block (ls.IsFeature target image feature block))
+first_stops (Tree checks target) e =
+    after_check checks (Tree checks target) refl (λ image text. passed checks image (tree.IsText target image text)) (λ image answer. passed checks image (tree.IsAnswer target image answer))
+    (λ image fault. fault_by checks image fault (tree.IsFault target image fault)) (λ image feature block. feature_by checks image feature block (tree.IsFeature target image feature block))
+first_stops (Cat checks target) e =
+    after_check checks (Cat checks target) refl (λ image text. passed checks image (cat.IsText target image text)) (λ image answer. passed checks image (cat.IsAnswer target image answer))
+    (λ image fault. fault_by checks image fault (cat.IsFault target image fault)) (λ image feature block. feature_by checks image feature block (cat.IsFeature target image feature block))
+first_stops (Xattr checks target name) e =
+    after_check checks (Xattr checks target name) refl (λ image text. passed checks image (xattr.IsText target name image text)) (λ image answer. passed checks image (xattr.IsAnswer target name image answer))
+    (λ image fault. fault_by checks image fault (xattr.IsFault target image fault)) (λ image feature block. feature_by checks image feature block (xattr.IsFeature target image feature block))
+first_stops command e = no_check command refl
+
 -- the check that a command is
 pub check_stops : (profile : Profile) → IsStoppedBy (First profile) (Check profile)
-check_stops profile = record {
-  lead_is = refl;
-  fault = λ image fault flaw. record {
-    none = no_result (Check profile) image (λ text is. flawed_refutes profile image (inl (fault, flaw)) is.1.right) (λ answer is. is);
-    there_is = flaw;
-  };
-  feature = λ image feature block flaw. record {
-    none = no_result (Check profile) image (λ text is. flawed_refutes profile image (inr (feature, (block, flaw))) is.1.right) (λ answer is. is);
-    there_is = flaw;
-  };
-}
+check_stops profile =
+    after_check (First profile) (Check profile) refl (λ image text is. (is.1.right, tt)) (λ image answer is. absurd is) (λ image fault flaw. flaw) (λ image feature block flaw. flaw)
 
 -- a check stopped the command, and nothing was written
 pub flaw_ended : {S T : Type 0} (bytes : S → Option (List ℕ)) (faults : S → ℕ) (checks : Checks) (command : Asked) (old new : S) (stopped : Stopped) (contents : Option (List ℕ)) (count : ℕ) → IsStoppedBy checks command →
@@ -369,10 +301,7 @@ flaw_ended bytes faults checks command old new (stops.Refused feature block) con
 flaw_ended bytes faults checks command old new (stops.Answered answer) contents count is tells looking cause = ([], (is.lead_is, λ image told. absurd (tells image told)), wrote_nothing contents)
 flaw_ended bytes faults checks command old new stops.ReadFailed contents count is tells looking cause = read_ended command (looked bytes faults old new) contents count (cause refl)
 flaw_ended bytes faults checks command old new stops.OutOfMemory contents count is tells looking cause = no_memory_ended command (looked bytes faults old new) contents count
-flaw_ended bytes faults checks command old new stops.WrongWords contents count is tells looking cause = absurd looking
-flaw_ended bytes faults checks command old new stops.WriteFailed contents count is tells looking cause = absurd looking
-flaw_ended bytes faults checks command old new stops.NoImage contents count is tells looking cause = absurd looking
-flaw_ended bytes faults checks command old new stops.NoFolder contents count is tells looking cause = absurd looking
+flaw_ended bytes faults checks command old new stopped contents count is tells looking cause = absurd looking
 
 -- what a stop of the check says of the container
 pub tells_flaw : (profile : Profile) (image : List ℕ) (stop : Stop Fault) → Tells (container.IsPresent profile image) (container.IsFeature image) stop → TellsFlaw (First profile) image (stopped_at (λ (fault : Fault). fault) stop)

@@ -132,10 +132,7 @@ export_way_ended target source (stops.Answered answer) contents count clean tell
     ([], (refl, λ image told. two_answers target image answer (clean image told) (way_of_two target image answer (tells image told))), wrote_nothing contents)
 export_way_ended target source stops.ReadFailed contents count clean tells looking cause = read_ended (Export target) source contents count (cause refl)
 export_way_ended target source stops.OutOfMemory contents count clean tells looking cause = no_memory_ended (Export target) source contents count
-export_way_ended target source stops.WrongWords contents count clean tells looking cause = absurd looking
-export_way_ended target source stops.WriteFailed contents count clean tells looking cause = absurd looking
-export_way_ended target source stops.NoImage contents count clean tells looking cause = absurd looking
-export_way_ended target source stops.NoFolder contents count clean tells looking cause = absurd looking
+export_way_ended target source stopped contents count clean tells looking cause = absurd looking
 
 -- while it gathered the items of the view
 pub export_items_ended : (target : AskedTarget) (source : Looked) (stopped : Stopped) (contents : Option (List ℕ)) (count : ℕ) → OfImage source (λ image. IsFree stopped) → IsWhileLooking stopped → (stopped ≡ stops.ReadFailed → LookFailed source) →
@@ -145,10 +142,7 @@ export_items_ended target source (stops.Refused feature block) contents count fr
 export_items_ended target source (stops.Answered answer) contents count free looking cause = ([], (refl, λ image told. absurd (free image told)), wrote_nothing contents)
 export_items_ended target source stops.ReadFailed contents count free looking cause = read_ended (Export target) source contents count (cause refl)
 export_items_ended target source stops.OutOfMemory contents count free looking cause = no_memory_ended (Export target) source contents count
-export_items_ended target source stops.WrongWords contents count free looking cause = absurd looking
-export_items_ended target source stops.WriteFailed contents count free looking cause = absurd looking
-export_items_ended target source stops.NoImage contents count free looking cause = absurd looking
-export_items_ended target source stops.NoFolder contents count free looking cause = absurd looking
+export_items_ended target source stopped contents count free looking cause = absurd looking
 
 -- what a stop of the tree says of a view that meets its rules, where it is no answer
 pub free_stop : {T : Type 0} (view : T → List (List ℕ × Target)) (wanted : Result (List (List ℕ × Target)) Answer) (stop : Stop PathStop) → IsGiven view wanted (Err stop) → IsNoAnswer stop → IsFree (stopped_on stop)
@@ -161,10 +155,7 @@ free_stop view wanted layer.NoMemory given none = tt
 -- where it is one there are no items
 pub no_root_items : {T : Type 0} (view : T → List (List ℕ × Target)) (facts : Facts) (stop : Stop PathStop) → IsGiven view (tree facts root_name) (Err stop) → export_parts.IsOfNoRoot stop → [] ≡ items_in facts
 no_root_items view facts (layer.Found (paths.Answer answer)) given root = no_items facts answer given
-no_root_items view facts (layer.Found (paths.Fault fault)) given root = absurd root
-no_root_items view facts (layer.Unsupported feature block) given root = absurd root
-no_root_items view facts layer.ReadFault given root = absurd root
-no_root_items view facts layer.NoMemory given root = absurd root
+no_root_items view facts stop given root = absurd root
 
 -- ---- the lines
 
@@ -331,10 +322,4 @@ export_put_ended target source folder seen volume view site items text (Err stop
       all_before target source folder taken.0 (all_fills target source folder seen volume view site items at all),
       taken.2,
     )
-export_put_ended target source folder seen volume view site items text (Err (stops.Faulty named)) out at all formed is put = absurd put.0
-export_put_ended target source folder seen volume view site items text (Err stops.WrongWords) out at all formed is put = absurd put.0
-export_put_ended target source folder seen volume view site items text (Err stops.ReadFailed) out at all formed is put = absurd put.0
-export_put_ended target source folder seen volume view site items text (Err (stops.Refused feature block)) out at all formed is put = absurd put.0
-export_put_ended target source folder seen volume view site items text (Err (stops.Answered answer)) out at all formed is put = absurd put.0
-export_put_ended target source folder seen volume view site items text (Err stops.NoImage) out at all formed is put = absurd put.0
-export_put_ended target source folder seen volume view site items text (Err stops.NoFolder) out at all formed is put = absurd put.0
+export_put_ended target source folder seen volume view site items text (Err stopped) out at all formed is put = absurd put.0

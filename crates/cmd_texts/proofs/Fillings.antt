@@ -8,7 +8,7 @@ use Rattle.tree_export.specs.Safe.{AreSafe, IsSafe}
 use Rattle.cmd_lines.specs.declared.stopped.Stopped.{Stopped}
 use Rattle.cmd_lines.specs.declared.stopped.Stopped.TheVariants as stops
 use Rattle.cmd_texts.specs.Handed.{Looked, LookFailed, Stored, stored}
-use Rattle.cmd_lines.specs.Outcome.{Outcome, Written, Faulty, WrongWords, ReadFailed, WriteFailed, OutOfMemory, Refused, Answered, NoImage, NoFolder}
+use Rattle.cmd_lines.specs.Outcome.{Outcome, Written, Faulty, ReadFailed, WriteFailed, OutOfMemory, Refused, Answered}
 use Rattle.cmd_texts.specs.ByCommand.{lead_of}
 use Rattle.cmd_texts.specs.Says.{SaysOn, Fills, FillsBy, AreItemsIf, AreItemsBy, IsSame, PutFailed}
 use Rattle.cmd_texts.specs.Ended.{HasEnded, HasEndedInto}
@@ -20,16 +20,8 @@ use Rattle.cmd_lines.proofs.Puts.{wrote_nothing}
 
 -- what an outcome says of a failed put follows from what it says of another
 pub says_more : (command : Asked) (source : Looked) (A B : Type 0) (o : Outcome) → (A → B) → SaysOn command source A o → SaysOn command source B o
-says_more command source A B (Written text) follows says = says
-says_more command source A B (Faulty lead named) follows says = says
-says_more command source A B WrongWords follows says = says
-says_more command source A B (ReadFailed part) follows says = says
 says_more command source A B (WriteFailed part) follows says = (follows says.0, says.1)
-says_more command source A B (OutOfMemory part) follows says = says
-says_more command source A B (Refused lead feature block) follows says = says
-says_more command source A B (Answered lead answer) follows says = says
-says_more command source A B NoImage follows says = says
-says_more command source A B NoFolder follows says = says
+says_more command source A B o follows says = says
 
 -- ---- nothing was put into the folder
 
@@ -53,7 +45,6 @@ pub unfilled : (command : Asked) (source : Looked) (folder : Stored) (stopped : 
     HasEnded command source (Err stopped) (record { old = contents; new = contents; old_faults = count; new_faults = count }) →
     HasEndedInto command source folder (Err stopped) (record { old = contents; new = contents; old_faults = count; new_faults = count })
 unfilled command source folder (stops.Faulty named) contents count same (part, says, wrote) = (part, says, none_more command source folder (λ image added. added ≡ []) (λ image. refl) same, wrote)
-unfilled command source folder stops.WrongWords contents count same (part, says, wrote) = absurd says
 unfilled command source folder stops.ReadFailed contents count same (part, says, wrote) =
     ([], (says.0, nothing_read command source), none_more command source folder (AreItemsBy command []) (none_before command) same, wrote_nothing contents)
 unfilled command source folder stops.WriteFailed contents count same (part, says, wrote) =
@@ -62,8 +53,7 @@ unfilled command source folder stops.OutOfMemory contents count same (part, says
     ([], nothing_part command source, none_more command source folder (AreItemsBy command []) (none_before command) same, wrote_nothing contents)
 unfilled command source folder (stops.Refused feature block) contents count same (part, says, wrote) = (part, says, none_more command source folder (λ image added. added ≡ []) (λ image. refl) same, wrote)
 unfilled command source folder (stops.Answered answer) contents count same (part, says, wrote) = (part, says, same, wrote)
-unfilled command source folder stops.NoImage contents count same (part, says, wrote) = absurd says
-unfilled command source folder stops.NoFolder contents count same (part, says, wrote) = absurd says
+unfilled command source folder stopped contents count same (part, says, wrote) = absurd says
 
 -- ---- a source that tells the same bytes
 
@@ -73,14 +63,11 @@ fills_over command source other folder P same f = record { added = f.added; none
 fills_other : (command : Asked) (source other : Looked) (folder : Stored) (o : Outcome) → source.bytes ≡ other.bytes → FillsBy command source folder o → FillsBy command other folder o
 fills_other command source other folder (Written text) same f = fills_over command source other folder (AreItemsIf command) same f
 fills_other command source other folder (Faulty lead named) same f = fills_over command source other folder (λ image added. added ≡ []) same f
-fills_other command source other folder WrongWords same f = f
 fills_other command source other folder (ReadFailed part) same f = fills_over command source other folder (AreItemsBy command part) same f
 fills_other command source other folder (WriteFailed part) same f = fills_over command source other folder (AreItemsBy command part) same f
 fills_other command source other folder (OutOfMemory part) same f = fills_over command source other folder (AreItemsBy command part) same f
 fills_other command source other folder (Refused lead feature block) same f = fills_over command source other folder (λ image added. added ≡ []) same f
-fills_other command source other folder (Answered lead answer) same f = f
-fills_other command source other folder NoImage same f = f
-fills_other command source other folder NoFolder same f = f
+fills_other command source other folder o same f = f
 
 -- what a command has come to over a source it has come to over another that fails where the first does
 pub into_same : (command : Asked) (source other : Looked) (folder : Stored) (ended : Result Unit Stopped) (out : Sunk) → source.bytes ≡ other.bytes → (LookFailed source → LookFailed other) →

@@ -4,13 +4,13 @@ use Rattle.std.proofs.Common.{inl, inr, sym, ◌∙◌, ap, subst, append_assoc,
 use Rattle.std.proofs.lemmas.List.{append-nil}
 use Rattle.view_rules.specs.declared.profile.Profile.TheVariants.{Plain}
 use Rattle.cmd_lines.specs.declared.named.Named.{Named}
-use Rattle.cmd_lines.specs.declared.named.Named.TheVariants.{InContainer, InUsage, InExport, NoTable, BadTable, NoPartition, PartOutside}
+use Rattle.cmd_lines.specs.declared.named.Named.TheVariants.{InContainer}
 use Rattle.cmd_lines.specs.declared.stopped.Stopped.{Stopped}
 use Rattle.cmd_lines.specs.declared.stopped.Stopped.TheVariants as stops
 use Rattle.cmd_texts.specs.ByCommand.{IsNamed, HasResult}
 use Rattle.cmd_texts.specs.Commands.Gen as gen
 use Rattle.cmd_texts.specs.Handed.{made}
-use Rattle.cmd_lines.specs.Outcome.{Outcome, Written, Faulty, WrongWords, ReadFailed, WriteFailed, OutOfMemory, Refused, Answered, NoImage, NoFolder, status_of, text_of}
+use Rattle.cmd_lines.specs.Outcome.{Outcome, Written, Faulty, ReadFailed, WriteFailed, OutOfMemory, Refused, Answered, status_of, text_of}
 use Rattle.cmd_lines.specs.ReportText.{report_text}
 use Rattle.cmd_texts.specs.Ended.{IsOfMade, HasEnded, HasMade, CameOver}
 use Rattle.cmd_texts.specs.Says.{BeginsText, BeginsForm, IsPart, SaysOn}
@@ -56,12 +56,7 @@ led_none n image (inr answer) = absurd answer.1
 
 led_named : (n : ℕ) (image : List ℕ) (named : Named) → IsNamed (Check Plain) image named → IsNamed (Gen n) image named
 led_named n image (InContainer fault) is = is
-led_named n image (InUsage slot xid) is = is
-led_named n image (InExport slot xid id) is = is
-led_named n image NoTable is = is
-led_named n image BadTable is = is
-led_named n image NoPartition is = is
-led_named n image (PartOutside at) is = is
+led_named n image named is = is
 
 led_lead : (n : ℕ) (lead : List ℕ) → lead ≡ [] → gen.lead n ++ lead ≡ gen.lead n
 led_lead n lead e = ap (λ l. gen.lead n ++ l) e ∙ append-nil (gen.lead n)
@@ -94,9 +89,7 @@ led_ended n image (Err stops.WriteFailed) old mid new a b c put (part, says, wro
     (gen.lead n ++ part, (rose_later a b c put.1 says.0, led_part n image part says.1), wrote_more old mid new (gen.lead n) part put.0 wrote)
 led_ended n image (Err stops.OutOfMemory) old mid new a b c put (part, says, wrote) =
     (gen.lead n ++ part, led_part n image part says, wrote_more old mid new (gen.lead n) part put.0 wrote)
-led_ended n image (Err stops.WrongWords) old mid new a b c put (part, says, wrote) = absurd says
-led_ended n image (Err stops.NoImage) old mid new a b c put (part, says, wrote) = absurd says
-led_ended n image (Err stops.NoFolder) old mid new a b c put (part, says, wrote) = absurd says
+led_ended n image (Err stopped) old mid new a b c put (part, says, wrote) = absurd says
 
 -- a part of the line is one of what is written
 lead_part : (n : ℕ) (image part : List ℕ) → IsPrefix part (gen.lead n) → IsPart (Gen n) (made image) part
@@ -106,13 +99,7 @@ lead_part n image part prefix = record { formed = inl prefix; begins = λ bytes 
 pub lead_cut : (n : ℕ) (image : List ℕ) (stopped : Stopped) (out : Sunk) → IsPut (gen.lead n) (Err stopped) out → HasEnded (Gen n) (made image) (Err stopped) out
 lead_cut n image stops.WriteFailed out put = let taken = part_taken out.old out.new (gen.lead n) put.1 in (taken.0, (put.0, lead_part n image taken.0 taken.1), taken.2)
 lead_cut n image stops.OutOfMemory out put = let taken = part_taken out.old out.new (gen.lead n) put.1 in (taken.0, lead_part n image taken.0 taken.1, taken.2)
-lead_cut n image (stops.Faulty named) out put = absurd put.0
-lead_cut n image stops.WrongWords out put = absurd put.0
-lead_cut n image stops.ReadFailed out put = absurd put.0
-lead_cut n image (stops.Refused feature block) out put = absurd put.0
-lead_cut n image (stops.Answered answer) out put = absurd put.0
-lead_cut n image stops.NoImage out put = absurd put.0
-lead_cut n image stops.NoFolder out put = absurd put.0
+lead_cut n image stopped out put = absurd put.0
 
 -- ---- the line of an outcome, and the status
 
@@ -136,14 +123,12 @@ said_status result o out err is ends =
 over_status : (n : ℕ) (image : List ℕ) (failed : Type 0) (o : Outcome) → SaysOn (Gen n) (made image) failed o → IsOfMade (status_of o)
 over_status n image failed (Written text) says = inl refl
 over_status n image failed (Faulty lead named) says = inr (inl refl)
-over_status n image failed WrongWords says = absurd says
 over_status n image failed (ReadFailed part) says = let rose = says.0 in absurd (omega (arith, rose))
 over_status n image failed (WriteFailed part) says = inr (inr (inl refl))
 over_status n image failed (OutOfMemory part) says = inr (inr (inr (inl refl)))
 over_status n image failed (Refused lead feature block) says = inr (inr (inr (inr refl)))
 over_status n image failed (Answered lead answer) says = absurd (says.1 image refl (for_answer answer (Unit {0}) (Unit {0}) (Unit {0}) tt tt tt)).answer_is
-over_status n image failed NoImage says = absurd says
-over_status n image failed NoFolder says = absurd says
+over_status n image failed o says = absurd says
 
 pub status_over : (n : ℕ) (image : Option (List ℕ)) (result : ℕ) (out err : Sunk) → CameOver (Gen n) image result out err → IsOfMade result
 status_over n None result out err ends = said_status result (OutOfMemory []) out err (inr (inr (inr (inl refl)))) ends

@@ -104,12 +104,7 @@ view_way image target (stops.Answered answer) tells =
     subst P (sym tells.0) tells.1
 view_way image target (stops.Faulty why) tells = tells
 view_way image target (stops.Refused feature block) tells = tells
-view_way image target stops.ReadFailed tells = tt
-view_way image target stops.OutOfMemory tells = tt
-view_way image target stops.WrongWords tells = tt
-view_way image target stops.WriteFailed tells = tt
-view_way image target stops.NoImage tells = tt
-view_way image target stops.NoFolder tells = tt
+view_way image target stopped tells = tt
 
 -- what is answered on the way to the view
 way_answers : (command : Asked) (wanted : Wanted) (told : Facts → TreeFault → Type 0) (target : AskedTarget) (image : List ℕ) (answer : Answer) → IsOverView command wanted told target →
@@ -133,10 +128,7 @@ view_way_ended command wanted told target source (stops.Refused feature block) c
     way_ended command target.volume source (stops.Refused feature block) contents count (over_volume command wanted told target is) tells looking cause
 view_way_ended command wanted told target source stops.ReadFailed contents count is tells looking cause = read_ended command source contents count (cause refl)
 view_way_ended command wanted told target source stops.OutOfMemory contents count is tells looking cause = no_memory_ended command source contents count
-view_way_ended command wanted told target source stops.WrongWords contents count is tells looking cause = absurd looking
-view_way_ended command wanted told target source stops.WriteFailed contents count is tells looking cause = absurd looking
-view_way_ended command wanted told target source stops.NoImage contents count is tells looking cause = absurd looking
-view_way_ended command wanted told target source stops.NoFolder contents count is tells looking cause = absurd looking
+view_way_ended command wanted told target source stopped contents count is tells looking cause = absurd looking
 
 -- what a stop of a call on a path says of what is wanted: it is the answer, and neither a fault nor a feature comes
 abbrev pub StopGiven : Result (List ℕ) Answer → Stop PathStop → Type 0

@@ -6,7 +6,7 @@ use Rattle.apfs_check.specs.declared.fault.Fault.{Fault}
 use Rattle.path_search.specs.declared.answer.Answer.{Answer}
 use Rattle.path_search.specs.declared.answer.Answer.TheVariants.{NoVolume}
 use Rattle.cmd_lines.specs.declared.named.Named.{Named}
-use Rattle.cmd_lines.specs.declared.named.Named.TheVariants.{InContainer, InUsage, InExport, NoTable, BadTable, NoPartition, PartOutside}
+use Rattle.cmd_lines.specs.declared.named.Named.TheVariants.{InContainer}
 use Rattle.cmd_lines.specs.declared.stopped.Stopped.{Stopped}
 use Rattle.cmd_lines.specs.declared.stopped.Stopped.TheVariants as stops
 use Rattle.cmd_texts.specs.ByCommand.{lead_of, IsText, IsFault, IsNamed, IsFeature, IsAnswer, HasResult}
@@ -45,12 +45,7 @@ no_volume_answers command named image answer is same lacks rests = record {
 -- what is told of a fault of the container is told of the fault that is named
 pub named_of : (command : Asked) (image : List ℕ) (why : Named) (P : Fault → Type 0) → ((fault : Fault) → P fault → StopsAt command image (IsFault command image fault)) → OfContainer why P → StopsAt command image (IsNamed command image why)
 named_of command image (InContainer fault) P follows told = follows fault told
-named_of command image (InUsage slot xid) P follows told = absurd told
-named_of command image (InExport slot xid id) P follows told = absurd told
-named_of command image NoTable P follows told = absurd told
-named_of command image BadTable P follows told = absurd told
-named_of command image NoPartition P follows told = absurd told
-named_of command image (PartOutside at) P follows told = absurd told
+named_of command image why P follows told = absurd told
 
 -- a command on the volume that is meant stopped on its way to it, and nothing was written
 pub way_ended : (command : Asked) (named : Option ℕ) (source : Looked) (stopped : Stopped) (contents : Option (List ℕ)) (count : ℕ) → IsOverVolume command named →
@@ -85,10 +80,7 @@ way_ended command named source (stops.Answered answer) contents count is tells l
 )
 way_ended command named source stops.ReadFailed contents count is tells looking cause = read_ended command source contents count (cause refl)
 way_ended command named source stops.OutOfMemory contents count is tells looking cause = no_memory_ended command source contents count
-way_ended command named source stops.WrongWords contents count is tells looking cause = absurd looking
-way_ended command named source stops.WriteFailed contents count is tells looking cause = absurd looking
-way_ended command named source stops.NoImage contents count is tells looking cause = absurd looking
-way_ended command named source stops.NoFolder contents count is tells looking cause = absurd looking
+way_ended command named source stopped contents count is tells looking cause = absurd looking
 
 -- `snapshots` is one
 pub snapshots_over : (named : Option ℕ) → IsOverVolume (Snapshots named) named

@@ -93,10 +93,7 @@ usage_way_ended named source (stops.Answered answer) contents count clean tells 
     ([], (refl, λ image told. no_volume_told named image answer (clean image told) (tells image told).0 (tells image told).1), wrote_nothing contents)
 usage_way_ended named source stops.ReadFailed contents count clean tells looking cause = read_ended (Usage named) source contents count (cause refl)
 usage_way_ended named source stops.OutOfMemory contents count clean tells looking cause = no_memory_ended (Usage named) source contents count
-usage_way_ended named source stops.WrongWords contents count clean tells looking cause = absurd looking
-usage_way_ended named source stops.WriteFailed contents count clean tells looking cause = absurd looking
-usage_way_ended named source stops.NoImage contents count clean tells looking cause = absurd looking
-usage_way_ended named source stops.NoFolder contents count clean tells looking cause = absurd looking
+usage_way_ended named source stopped contents count clean tells looking cause = absurd looking
 
 -- it stopped while it counted, and nothing was written
 pub usage_stop_ended : (named : Option ℕ) (source : Looked) (slot : ℕ) (stop : Stop UseFault) (contents : Option (List ℕ)) (count : ℕ) → OfImage source (λ image. IsFree stop) → (stop ≡ layer.ReadFault → LookFailed source) →

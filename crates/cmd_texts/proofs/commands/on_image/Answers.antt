@@ -5,9 +5,8 @@ use Rattle.cmd_lines.specs.Words.{Asked}
 use Rattle.cmd_lines.specs.Lent.{said}
 use Rattle.cmd_lines.specs.Written.{sunk}
 use Rattle.cmd_texts.proofs.Checked.{clean_ended, first_stops, flaw_ended}
-use Rattle.cmd_texts.proofs.Endings.{ended_same}
+use Rattle.cmd_texts.proofs.Endings.{ended_later}
 use Rattle.cmd_texts.proofs.HandedIn.{handed_in}
-use Rattle.cmd_lines.proofs.Puts.{rose_later}
 use Rattle.cmd_texts.proofs.commands.on_image.Goals as goal
 
 pub returns-in-Ok-clause-answer : goal.returns-in-Ok-clause-answer
@@ -18,10 +17,7 @@ returns-in-Ok-clause-answer g c =
     let out = sunk g.W.Sink.contents g.W.Sink.faults c.args.out.now c.on_unchecked.new.out in
     clean_ended command (looked bytes faults c.args.src.now c.on_unchecked.new.src) c.on_unchecked.result out
     (rw c.checks.ensures at c.in-Ok.ensures.clear)
-    (ended_same (quick command) (looked bytes faults c.check_first.new.src c.on_unchecked.new.src) (looked bytes faults c.args.src.now c.on_unchecked.new.src) c.on_unchecked.result out
-    c.in-Ok.ensures.kept.same_bytes
-    (rose_later (faults c.args.src.now) (faults c.check_first.new.src) (faults c.on_unchecked.new.src) c.in-Ok.ensures.kept.later)
-    c.on_unchecked.ensures.answer)
+    (ended_later bytes faults (quick command) c.args.src.now c.check_first.new.src c.on_unchecked.new.src c.on_unchecked.result out c.in-Ok.ensures.kept.same_bytes c.in-Ok.ensures.kept.later c.on_unchecked.ensures.answer)
 
 pub returns-in-Err-clause-answer : goal.returns-in-Err-clause-answer
 returns-in-Err-clause-answer g c =

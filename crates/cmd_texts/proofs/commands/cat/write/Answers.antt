@@ -2,10 +2,6 @@
 use Rattle.std.proofs.Common.{refl}
 use Rattle.cmd_words.specs.Asked.{AskedTarget}
 use Rattle.cmd_words.specs.Lent.{target_asked}
-use Rattle.obj_base.specs.declared.site.Site.{Site}
-use Rattle.nx_ring.specs.Checkpoint.{Seen}
-use Rattle.vol_view.specs.Volumes.{Loaded}
-use Rattle.vol_view.specs.declared.volume.View.{View}
 use Rattle.cmd_texts.specs.Commands.Cat as command
 use Rattle.cmd_lines.specs.declared.words.Checks.TheVariants.{Quick}
 use Rattle.cmd_lines.specs.Words.{Cat}
@@ -24,25 +20,19 @@ returns-in-Err-clause-answer g c =
 pub returns-in-Ok-cat-clause-answer : goal.returns-in-Ok-cat-clause-answer
 returns-in-Ok-cat-clause-answer g c =
     let target : AskedTarget = target_asked c.args.target in
-    let seen : Seen = c.in-Ok.viewed.checkpoint in
-    let volume : Loaded = c.in-Ok.viewed.volume in
-    let view : View = c.in-Ok.viewed.view in
-    let site : Site = c.site-site.result in
-    let at : IsAtView g.S.BlockSource.bytes g.S.BlockSource.faults target c.args.src.now c.reach_view.new.src seen volume view site =
+    let viewed = c.in-Ok.viewed in
+    let at : IsAtView g.S.BlockSource.bytes g.S.BlockSource.faults target c.args.src.now c.reach_view.new.src viewed.checkpoint viewed.volume viewed.view c.site-site.result =
     record { site_is = c.site-site.ensures; meant = c.in-Ok.ensures.clear; same_bytes = c.in-Ok.ensures.kept.same_bytes; later = c.in-Ok.ensures.kept.later } in
     contents_written g.S.BlockSource.bytes g.S.BlockSource.faults (Cat Quick target) (command.wanted target.path) (command.told target.path) target c.args.src.now c.reach_view.new.src c.cat.new.src
-    seen volume view site (sunk g.W.Sink.contents g.W.Sink.faults c.args.out.now c.cat.new.out) (cat_over target) (record { streams_is = refl; formed = λ text. tt }) at c.in-Ok-cat.ensures.text
+    viewed.checkpoint viewed.volume viewed.view c.site-site.result (sunk g.W.Sink.contents g.W.Sink.faults c.args.out.now c.cat.new.out) (cat_over target) (record { streams_is = refl; formed = λ text. tt }) at c.in-Ok-cat.ensures.text
 
 pub returns-clause-answer : goal.returns-clause-answer
 returns-clause-answer g c =
     let target : AskedTarget = target_asked c.args.target in
-    let seen : Seen = c.in-Ok.viewed.checkpoint in
-    let volume : Loaded = c.in-Ok.viewed.volume in
-    let view : View = c.in-Ok.viewed.view in
-    let site : Site = c.site-site.result in
-    let at : IsAtView g.S.BlockSource.bytes g.S.BlockSource.faults target c.args.src.now c.reach_view.new.src seen volume view site =
+    let viewed = c.in-Ok.viewed in
+    let at : IsAtView g.S.BlockSource.bytes g.S.BlockSource.faults target c.args.src.now c.reach_view.new.src viewed.checkpoint viewed.volume viewed.view c.site-site.result =
     record { site_is = c.site-site.ensures; meant = c.in-Ok.ensures.clear; same_bytes = c.in-Ok.ensures.kept.same_bytes; later = c.in-Ok.ensures.kept.later } in
     rw c.stopped_on_write.ensures
     (writing_stopped g.S.BlockSource.bytes g.S.BlockSource.faults (Cat Quick target) (command.wanted target.path) (command.told target.path) target c.args.src.now c.reach_view.new.src c.cat.new.src
-    seen volume view site c.in-Err-cat.stop (sunk g.W.Sink.contents g.W.Sink.faults c.args.out.now c.cat.new.out) (cat_over target) (record { streams_is = refl; formed = λ text. tt }) at
+    viewed.checkpoint viewed.volume viewed.view c.site-site.result c.in-Err-cat.stop (sunk g.W.Sink.contents g.W.Sink.faults c.args.out.now c.cat.new.out) (cat_over target) (record { streams_is = refl; formed = λ text. tt }) at
     c.in-Err-cat.ensures.text c.in-Err-cat.ensures.untouched c.in-Err-cat.ensures.exact c.in-Err-cat.ensures.present (λ facts fault. tt) c.in-Err-cat.ensures.read_cause c.in-Err-cat.ensures.write_cause)

@@ -1,9 +1,5 @@
 -- The lines of the newest checkpoint are put, or what stops it is told.
-use Rattle.std.proofs.Common.{◌≡◌, ap, refl}
-use Rattle.std.specs.Prelude.{Err}
-use Rattle.obj_base.specs.declared.stop.Stop.{Stop}
-use Rattle.obj_base.specs.declared.stop.Stop.TheVariants.{ReadFault}
-use Rattle.nx_ring.specs.declared.fault.RingFault.{RingFault}
+use Rattle.std.proofs.Common.{refl}
 use Rattle.cmd_texts.specs.Commands.Info.{info_text}
 use Rattle.apfs_check.specs.Raised.{of_ring}
 use Rattle.cmd_lines.specs.Words.{Info}
@@ -26,5 +22,4 @@ returns-in-Err-clause-answer g c =
     rw c.stopped_by.ensures
     (stop_ended Info (looked g.S.BlockSource.bytes g.S.BlockSource.faults c.args.src.now c.newest.new.src) of_ring stop
     (g.W.Sink.contents c.args.out.now) (g.W.Sink.faults c.args.out.now) refl
-    (λ image given. info_stops image stop (c.in-Err.ensures.first image given) (c.in-Err.ensures.present image given))
-    (λ (e : stop ≡ ReadFault). c.in-Err.ensures.cause (ap (λ (s : Stop RingFault). Err s) e)))
+    (λ image given. info_stops image stop (c.in-Err.ensures.first image given) (c.in-Err.ensures.present image given)) c.in-Err.ensures.cause)

@@ -1,10 +1,6 @@
 -- All lines are put, or what stops the main queue is told.
 use Rattle.std.proofs.Common.{◌≡◌, ◌∙◌, ap, refl}
-use Rattle.std.specs.Prelude.{Err}
-use Rattle.obj_base.specs.declared.stop.Stop.{Stop}
-use Rattle.obj_base.specs.declared.stop.Stop.TheVariants.{ReadFault}
 use Rattle.space_pool.specs.declared.entry.Queue.TheVariants.{Main}
-use Rattle.space_pool.specs.declared.fault.PoolFault.{PoolFault}
 use Rattle.reach_rules.specs.declared.fault.ReachFault.TheVariants as sweeps
 use Rattle.apfs_check.specs.Raised.{of_sweep}
 use Rattle.cmd_texts.specs.Checkpoints.{IsNewest}
@@ -53,5 +49,4 @@ returns-in-Err-clause-answer g c =
     (g.W.Sink.contents c.args.out.now) (g.W.Sink.faults c.args.out.now) refl
     (λ image given.
     let newest : IsNewest image seen = record { newest = c.requires.found image given; plain = c.requires.plain } in
-    queue_stops image seen c.args.space.now Main stop newest (c.requires.space image given) (c.in-Err.ensures.present image given) (c.in-Err.ensures.exact image given))
-    (λ (e : stop ≡ ReadFault). c.in-Err.ensures.cause (ap (λ (s : Stop PoolFault). Err s) e)))
+    queue_stops image seen c.args.space.now Main stop newest (c.requires.space image given) (c.in-Err.ensures.present image given) (c.in-Err.ensures.exact image given)) c.in-Err.ensures.cause)

@@ -6,8 +6,7 @@ use Rattle.cmd_lines.specs.declared.stopped.Stopped.TheVariants.{ReadFailed}
 use Rattle.cmd_texts.specs.Handed.{looked}
 use Rattle.cmd_lines.specs.Words.{Usage}
 use Rattle.cmd_lines.specs.Written.{sunk}
-use Rattle.cmd_texts.proofs.Endings.{ended_same}
-use Rattle.cmd_lines.proofs.Puts.{rose_later}
+use Rattle.cmd_texts.proofs.Endings.{ended_later}
 use Rattle.cmd_texts.proofs.Usages.{usage_way_ended}
 use Rattle.cmd_texts.proofs.commands.usage.write.Goals as goal
 
@@ -16,12 +15,8 @@ write_of-requires-clause-meant g c image given = c.in-Ok.ensures.clear image (sy
 
 pub returns-in-Ok-clause-answer : goal.returns-in-Ok-clause-answer
 returns-in-Ok-clause-answer g c =
-    let bytes = g.S.BlockSource.bytes in
-    let faults = g.S.BlockSource.faults in
-    ended_same (Usage c.args.volume) (looked bytes faults c.reach.new.src c.write_of.new.src) (looked bytes faults c.args.src.now c.write_of.new.src) c.write_of.result
-    (sunk g.W.Sink.contents g.W.Sink.faults c.args.out.now c.write_of.new.out)
-    c.in-Ok.ensures.kept.same_bytes (rose_later (faults c.args.src.now) (faults c.reach.new.src) (faults c.write_of.new.src) c.in-Ok.ensures.kept.later)
-    c.write_of.ensures.answer
+    ended_later g.S.BlockSource.bytes g.S.BlockSource.faults (Usage c.args.volume) c.args.src.now c.reach.new.src c.write_of.new.src c.write_of.result (sunk g.W.Sink.contents g.W.Sink.faults c.args.out.now c.write_of.new.out)
+    c.in-Ok.ensures.kept.same_bytes c.in-Ok.ensures.kept.later c.write_of.ensures.answer
 
 pub returns-in-Err-clause-answer : goal.returns-in-Err-clause-answer
 returns-in-Err-clause-answer g c =

@@ -1,9 +1,5 @@
 -- The volumes are put, or what stops their heads is told.
 use Rattle.std.proofs.Common.{◌≡◌, ◌∙◌, ap, refl}
-use Rattle.std.specs.Prelude.{Err}
-use Rattle.obj_base.specs.declared.stop.Stop.{Stop}
-use Rattle.obj_base.specs.declared.stop.Stop.TheVariants.{ReadFault}
-use Rattle.vol_view.specs.declared.stop.VolStop.{VolStop}
 use Rattle.cmd_texts.specs.Checkpoints.{IsNewest}
 use Rattle.cmd_texts.specs.Commands.Volumes.{volumes_text}
 use Rattle.apfs_check.specs.Raised.{of_volume}
@@ -33,5 +29,4 @@ returns-in-Err-clause-answer g c =
     (g.W.Sink.contents c.args.out.now) (g.W.Sink.faults c.args.out.now) refl
     (λ image given.
     let newest : IsNewest image seen = record { newest = c.requires.found image given; plain = c.requires.plain } in
-    heads_stops image seen stop newest (c.in-Err.ensures.present image given) (c.in-Err.ensures.exact image given))
-    (λ (e : stop ≡ ReadFault). c.in-Err.ensures.cause (ap (λ (s : Stop VolStop). Err s) e)))
+    heads_stops image seen stop newest (c.in-Err.ensures.present image given) (c.in-Err.ensures.exact image given)) c.in-Err.ensures.cause)

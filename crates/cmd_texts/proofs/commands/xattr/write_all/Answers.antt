@@ -2,10 +2,6 @@
 use Rattle.std.proofs.Common.{List, ℕ, None, Vec, Global, refl}
 use Rattle.cmd_words.specs.Asked.{AskedTarget}
 use Rattle.cmd_words.specs.Lent.{target_asked}
-use Rattle.obj_base.specs.declared.site.Site.{Site}
-use Rattle.nx_ring.specs.Checkpoint.{Seen}
-use Rattle.vol_view.specs.Volumes.{Loaded}
-use Rattle.vol_view.specs.declared.volume.View.{View}
 use Rattle.path_read.specs.Attributes.{attributes}
 use Rattle.path_read.specs.Texts.{xattr_text}
 use Rattle.cmd_texts.specs.Commands.Xattr as command
@@ -25,26 +21,20 @@ returns-in-Err-clause-answer g c =
 pub returns-in-Ok-attrs-clause-answer : goal.returns-in-Ok-attrs-clause-answer
 returns-in-Ok-attrs-clause-answer g c =
     let target : AskedTarget = target_asked c.args.target in
-    let seen : Seen = c.in-Ok.viewed.checkpoint in
-    let volume : Loaded = c.in-Ok.viewed.volume in
-    let view : View = c.in-Ok.viewed.view in
-    let site : Site = c.site-site.result in
-    let at : IsAtView g.S.BlockSource.bytes g.S.BlockSource.faults target c.args.src.now c.reach_view.new.src seen volume view site =
+    let viewed = c.in-Ok.viewed in
+    let at : IsAtView g.S.BlockSource.bytes g.S.BlockSource.faults target c.args.src.now c.reach_view.new.src viewed.checkpoint viewed.volume viewed.view c.site-site.result =
     record { site_is = c.site-site.ensures; meant = c.in-Ok.ensures.clear; same_bytes = c.in-Ok.ensures.kept.same_bytes; later = c.in-Ok.ensures.kept.later } in
     list_put g.S.BlockSource.bytes g.S.BlockSource.faults (Xattr Quick target None) (λ facts. attributes facts target.path) xattr_text (command.told target.path) target c.args.src.now c.reach_view.new.src c.attrs.new.src
-    seen volume view site c.in-Ok-attrs.items.items c.put_lines.result (sunk g.W.Sink.contents g.W.Sink.faults c.args.out.now c.put_lines.new.out) (xattr_over target None) (c.in-Ok-attrs.items.items, refl) at c.in-Ok-attrs.ensures.exact
+    viewed.checkpoint viewed.volume viewed.view c.site-site.result c.in-Ok-attrs.items.items c.put_lines.result (sunk g.W.Sink.contents g.W.Sink.faults c.args.out.now c.put_lines.new.out) (xattr_over target None) (c.in-Ok-attrs.items.items, refl) at c.in-Ok-attrs.ensures.exact
     (rw c.as_slice.ensures.value at c.put_lines.ensures)
 
 pub returns-clause-answer : goal.returns-clause-answer
 returns-clause-answer g c =
     let target : AskedTarget = target_asked c.args.target in
-    let seen : Seen = c.in-Ok.viewed.checkpoint in
-    let volume : Loaded = c.in-Ok.viewed.volume in
-    let view : View = c.in-Ok.viewed.view in
-    let site : Site = c.site-site.result in
-    let at : IsAtView g.S.BlockSource.bytes g.S.BlockSource.faults target c.args.src.now c.reach_view.new.src seen volume view site =
+    let viewed = c.in-Ok.viewed in
+    let at : IsAtView g.S.BlockSource.bytes g.S.BlockSource.faults target c.args.src.now c.reach_view.new.src viewed.checkpoint viewed.volume viewed.view c.site-site.result =
     record { site_is = c.site-site.ensures; meant = c.in-Ok.ensures.clear; same_bytes = c.in-Ok.ensures.kept.same_bytes; later = c.in-Ok.ensures.kept.later } in
     rw c.stopped_on_path.ensures
     (list_stopped g.S.BlockSource.bytes g.S.BlockSource.faults (Xattr Quick target None) (λ facts. attributes facts target.path) xattr_text (command.told target.path) target c.args.src.now c.reach_view.new.src c.attrs.new.src
-    seen volume view site (λ (rows : Vec (List ℕ × ℕ) Global). rows.items) c.in-Err-attrs.stop (g.W.Sink.contents c.args.out.now) (g.W.Sink.faults c.args.out.now) (xattr_over target None) at
+    viewed.checkpoint viewed.volume viewed.view c.site-site.result (λ (rows : Vec (List ℕ × ℕ) Global). rows.items) c.in-Err-attrs.stop (g.W.Sink.contents c.args.out.now) (g.W.Sink.faults c.args.out.now) (xattr_over target None) at
     c.in-Err-attrs.ensures.exact c.in-Err-attrs.ensures.present (λ image given fault e. tt) c.in-Err-attrs.ensures.cause)
