@@ -139,9 +139,10 @@ impl Changing {
         ensures held { (start : State) (site : Place) (image : List ℕ) → HasChanged K.shape site image [] start self.old → HasChanged K.shape site image [] start self.new }
     {
         let names = self.after.names();
-        self.leaves = VecDeque::new(self.alloc);
-        self.stock = Stock::new(no_facts(self.alloc, names), false);
-        self.after = Held::nothing::<K>(self.alloc, names);
+        let none = Stock::new(no_facts(self.alloc, names), false);
+        drop(replace(&mut self.leaves, VecDeque::new(self.alloc)));
+        drop(replace(&mut self.stock, none));
+        drop(replace(&mut self.after, Held::nothing::<K>(self.alloc, names)));
         self.follows = false;
     }
 
@@ -288,7 +289,9 @@ impl Changing {
     pub fn finish<K: TreeKey>(mut self) -> Result<Changed, NoMemory>
         ensures { (start : State) (site : Place) (image : List ℕ) (leaves : List One) → HasChanged K.shape site image leaves start self → IfOk result (IsDifference K.shape site image leaves (facts_before start)) }
     {
-        self.close::<K>()
+        let changed = self.close::<K>();
+        drop(self);
+        changed
     }
 }
 

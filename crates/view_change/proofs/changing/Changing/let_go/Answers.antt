@@ -13,7 +13,7 @@ returns g c = record {
       let old = c.args.self.now in
       let held = c.nothing.result in
       let named = c.names-names.ensures in
-      lets-go shape site image (facts_before start) old.leaves.items c.new.result.items old.stock.0 c.new-2.result.0 (held_after old) (record { leaves = held.leaves; facts = behind c.new-2.result.1 held.facts; records = held.records }) old.follows old.stock.1 c.new-2.result.1 old.passed old.gone old.come c.new.ensures.items
-      (ap (λ v. v.0) c.new-2.ensures ∙ (c.no_facts.ensures ∙ ap no_facts_under c.names-names.ensures))
-      (subst (λ n. IsHeld shape site image n [] (record { leaves = held.leaves; facts = behind c.new-2.result.1 held.facts; records = held.records })) named (subst (λ v. IsHeld shape site image c.names-names.result [] (record { leaves = held.leaves; facts = behind v.1 held.facts; records = held.records })) (sym c.new-2.ensures) (c.nothing.ensures site image))) had;
+      rw (c.replace.ensures.after, c.replace-2.ensures.after, c.replace-3.ensures.after) (lets-go shape site image (facts_before start) old.leaves.items c.new.result.items old.stock.0 c.new-none.result.0 (held_after old) (record { leaves = held.leaves; facts = behind c.new-none.result.1 held.facts; records = held.records }) old.follows old.stock.1 c.new-none.result.1 old.passed old.gone old.come c.new.ensures.items
+      (ap (λ v. v.0) c.new-none.ensures ∙ (c.no_facts.ensures ∙ ap no_facts_under c.names-names.ensures))
+      (subst (λ n. IsHeld shape site image n [] (record { leaves = held.leaves; facts = behind c.new-none.result.1 held.facts; records = held.records })) named (subst (λ v. IsHeld shape site image c.names-names.result [] (record { leaves = held.leaves; facts = behind v.1 held.facts; records = held.records })) (sym c.new-none.ensures) (c.nothing.ensures site image))) had);
 }
