@@ -1,6 +1,7 @@
 -- Facts that are joined, kind by kind, and taken apart by their numbers.
-use Rattle.std.proofs.Common.{◌≡◌, ℕ, ◌+◌, List, [], ◌∷◌, ◌++◌, length, map, take, drop, refl, ap, sym, ◌∙◌, subst, arith, append_assoc, append-nil, length-append}
+use Rattle.std.proofs.Common.{◌≡◌, ℕ, ◌+◌, List, [], ◌∷◌, ◌++◌, length, map, take, refl, ap, sym, ◌∙◌, subst, arith, append_assoc, append-nil, length-append}
 use Rattle.std.specs.Prelude.{false, ◌-◌, Option, None, Some, is_some, slice_get}
+use Rattle.std.proofs.Math.Seq.{take-append_seam, drop-append_seam}
 use Rattle.std.proofs.lemmas.List.{map-append, take_more}
 use Rattle.std.proofs.lemmas.Option.{slice_get_within, get_or_from_slice_get}
 use Rattle.std.proofs.lemmas.List.Elements.{filter_map-append, All-nil, All-push}
@@ -19,14 +20,6 @@ use Rattle.view_change.specs.Kept.{facts_said, AreReadable}
 use Rattle.view_change.proofs.Weaving.{more-stay}
 
 -- parts of joined lists
-take-front : {X : Type 0} (xs ys : List X) → take (length xs) (xs ++ ys) ≡ xs
-take-front [] ys = refl
-take-front (x ∷ xs) ys = ap (λ zs. x ∷ zs) (take-front xs ys)
-
-drop-front : {X : Type 0} (xs ys : List X) → drop (length xs) (xs ++ ys) ≡ ys
-drop-front [] ys = refl
-drop-front (x ∷ xs) ys = drop-front xs ys
-
 length-since : {X : Type 0} (xs ys : List X) → length (xs ++ ys) - length xs ≡ length ys
 length-since xs ys = let e = length-append xs ys in omega (arith, e)
 
@@ -46,23 +39,23 @@ joined-assoc a b c = λ i. record {
 pub first-joined : (a b : Facts) → first_facts (numbers_of a) (joined a b) ≡ a
 first-joined a b = λ i. record {
   names = a.names;
-  inodes = take-front a.inodes b.inodes i;
-  entries = take-front a.entries b.entries i;
-  attributes = take-front a.attributes b.attributes i;
-  links = take-front a.links b.links i;
-  siblings = take-front a.siblings b.siblings i;
-  extents = take-front a.extents b.extents i;
+  inodes = take-append_seam a.inodes b.inodes i;
+  entries = take-append_seam a.entries b.entries i;
+  attributes = take-append_seam a.attributes b.attributes i;
+  links = take-append_seam a.links b.links i;
+  siblings = take-append_seam a.siblings b.siblings i;
+  extents = take-append_seam a.extents b.extents i;
 }
 
 pub rest-joined : (a b : Facts) → a.names ≡ b.names → rest_facts (numbers_of a) (joined a b) ≡ b
 rest-joined a b e = λ i. record {
   names = e i;
-  inodes = drop-front a.inodes b.inodes i;
-  entries = drop-front a.entries b.entries i;
-  attributes = drop-front a.attributes b.attributes i;
-  links = drop-front a.links b.links i;
-  siblings = drop-front a.siblings b.siblings i;
-  extents = drop-front a.extents b.extents i;
+  inodes = drop-append_seam a.inodes b.inodes i;
+  entries = drop-append_seam a.entries b.entries i;
+  attributes = drop-append_seam a.attributes b.attributes i;
+  links = drop-append_seam a.links b.links i;
+  siblings = drop-append_seam a.siblings b.siblings i;
+  extents = drop-append_seam a.extents b.extents i;
 }
 
 -- the numbers of what was joined
@@ -181,7 +174,7 @@ added-none facts = record {
 }
 
 -- the first items and one more
-take-next : {X : Type 0} (xs : List X) (i : ℕ) (x : X) → slice_get xs i ≡ Some x → take (i + 1) xs ≡ take i xs ++ x ∷ []
+pub take-next : {X : Type 0} (xs : List X) (i : ℕ) (x : X) → slice_get xs i ≡ Some x → take (i + 1) xs ≡ take i xs ++ x ∷ []
 take-next xs i x e = take_more xs i x (slice_get_within xs i x e) ∙ ap (λ y. take i xs ++ y ∷ []) (get_or_from_slice_get xs i x x e)
 
 none-is : {X : Type 0} (o : Option X) → is_some o ≡ false → o ≡ None

@@ -1,5 +1,5 @@
 -- The outline of a tree, level by level.
-use Rattle.std.proofs.Common.{◌≡◌, ℕ, zero, suc, ◌+◌, ◌≤◌, Bool, true, false, ◌&&◌, ◌==◌, cond, List, [], ◌∷◌, ◌++◌, map, length, Option, None, Some, refl, ap, sym, ◌∙◌, subst, arith, append-nil, append_assoc, length-append, ◌<◌, take, get_or, Result, Ok, Err}
+use Rattle.std.proofs.Common.{◌≡◌, ℕ, suc, ◌+◌, ◌≤◌, Bool, true, false, ◌&&◌, ◌==◌, cond, List, [], ◌∷◌, ◌++◌, map, length, Option, None, Some, refl, ap, sym, ◌∙◌, subst, arith, append-nil, append_assoc, length-append, ◌<◌, take, get_or, Result, Ok, Err}
 use Rattle.std.specs.Prelude.{nat_lt, is_some, IfOk, IsTrue}
 use Rattle.std.specs.List.{flat_map, list_all, range_with_len}
 use Rattle.std.proofs.lemmas.Bool.{false≢true}
@@ -159,9 +159,8 @@ outline-top tree root start reads node outline there high info all few =
 
 -- so many more are still to be read by the first separators as by all at most
 reads-taken : (n : ℕ) (xs : List Separator) → reads_in (take n xs) ≤ reads_in xs
-reads-taken zero xs = omega arith
-reads-taken (suc n) [] = omega arith
 reads-taken (suc n) (x ∷ xs) = omega (arith, reads-taken n xs)
+reads-taken n xs = omega arith
 
 -- each separator leads to a place
 separators-few : {K : Type 0} (tree : Tree K) (level : ℕ) (xs : List Separator) (items : List Item) → AreSeparators tree level xs items → length xs ≤ length (places_in items)

@@ -185,9 +185,8 @@ seen-leaf shape keys nodes passed site image leaf ends seen new has told low onc
 
 -- the items below a separator of a leaf are those of the leaf
 value-judged : (block : ℕ) (r : Result (List ℕ) (Bad NodeFault)) → value_of (judged block r) ≡ value_of r
-value-judged block (Ok node) = refl
 value-judged block (Err (bads.Found why)) = refl
-value-judged block (Err (bads.Unsupported feature)) = refl
+value-judged block r = refl
 
 line-leaf : {K : Type 0} (tree : Tree K) (oid : ℕ) (es : List (ℕ × Pair)) → flat_map (line_part tree zero oid) es ≡ map (leaf_item oid) es
 line-leaf tree oid [] = refl

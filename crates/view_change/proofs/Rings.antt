@@ -1,6 +1,6 @@
 -- Chains in parts, and rings that turn.
 use Rattle.std.proofs.Common.{◌≡◌, ℕ, zero, suc, ◌+◌, ◌-◌, ◌<◌, ◌≤◌, Bool, true, List, [], ◌∷◌, ◌++◌, length, get_or, take, drop, ap, refl, sym, ◌∙◌, subst, min, arith, append_assoc}
-use Rattle.std.proofs.lemmas.List.{get_or-drop, get_or-take, get_or_default, length-drop, length-take-le, take-append-le, drop-append-le, drop-take, drop_all, take-append-drop}
+use Rattle.std.proofs.lemmas.List.{get_or-drop, get_or-take, get_or_default, length-drop, length-take-le, take-append-le, drop-append-le, drop-drop, drop-take, drop_all, take_all}
 use Rattle.std.proofs.Math.Seq.{take-add}
 use Rattle.rule_index.specs.Order.{IsChain}
 use Rattle.view_change.specs.Rings.{MayCome}
@@ -52,10 +52,8 @@ module _ {X : Type 0} (follows : X → X → Bool) where
 
 -- the first item of a list is that of its first items
 pub front-is : {X : Type 0} (n left : ℕ) (items : List X) (x : X) → x ≡ get_or items 0 x → x ≡ get_or (take n (take left items)) 0 x
-front-is zero left items x e = refl
-front-is (suc n) zero items x e = refl
-front-is (suc n) (suc left) [] x e = refl
 front-is (suc n) (suc left) (y ∷ items) x e = e
+front-is n left items x e = refl
 
 -- a ring of which some first items have gone to its end
 pub turned-left : {X : Type 0} (items : List X) (left n : ℕ) → n ≤ left → left ≤ length items → take (left - n) (drop n items ++ take n items) ≡ drop n (take left items)
@@ -64,41 +62,31 @@ turned-left items left n few inside =
     let all : n + (left - n) ≡ left = omega arith in
     take-append-le (left - n) (drop n items) (take n items) (omega (arith, long)) ∙ (sym (drop-take n (left - n) items) ∙ ap (λ m. drop n (take m items)) all)
 
-drop-drop : {X : Type 0} (n m : ℕ) (xs : List X) → drop m (drop n xs) ≡ drop (n + m) xs
-drop-drop zero m xs = let at : m ≡ 0 + m = omega arith in ap (λ k. drop k xs) at
-drop-drop (suc n) m [] = drop_all m [] (omega arith) ∙ sym (drop_all (suc n + m) [] (omega arith))
-drop-drop (suc n) m (x ∷ xs) = let at : suc (n + m) ≡ suc n + m = omega arith in drop-drop n m xs ∙ ap (λ k. drop k (x ∷ xs)) at
-
 take-take : {X : Type 0} (n m : ℕ) (xs : List X) → n ≤ m → take n (take m xs) ≡ take n xs
-take-take zero m xs few = refl
 take-take (suc n) zero xs few = absurd (omega arith)
-take-take (suc n) (suc m) [] few = refl
 take-take (suc n) (suc m) (x ∷ xs) few = ap (λ ys. x ∷ ys) (take-take n m xs (omega arith))
+take-take n m xs few = refl
 
 pub turned-taken : {X : Type 0} (items : List X) (left n : ℕ) → n ≤ left → left ≤ length items → drop (left - n) (drop n items ++ take n items) ≡ drop left items ++ take n (take left items)
 turned-taken items left n few inside =
     let long = length-drop n items in
     let all : n + (left - n) ≡ left = omega arith in
     drop-append-le (left - n) (drop n items) (take n items) (omega (arith, long))
-    ∙ (λ i. (drop-drop n (left - n) items ∙ ap (λ m. drop m items) all) i ++ sym (take-take n left items few) i)
+    ∙ (λ i. (drop-drop (left - n) n items ∙ ap (λ m. drop m items) all) i ++ sym (take-take n left items few) i)
 
 -- all that are there go where more are asked for
 pub drop-few : {X : Type 0} (n k : ℕ) (xs : List X) → n ≡ min k (length xs) → drop n xs ≡ drop k xs
 drop-few n k [] e = drop_all n [] (omega arith) ∙ sym (drop_all k [] (omega arith))
 drop-few zero zero (x ∷ xs) e = refl
-drop-few zero (suc k) (x ∷ xs) e = absurd (omega (arith, e))
-drop-few (suc n) zero (x ∷ xs) e = absurd (omega (arith, e))
 drop-few (suc n) (suc k) (x ∷ xs) e = drop-few n k xs (omega (arith, e))
+drop-few n k xs e = absurd (omega (arith, e))
 
 -- so they are the first of them
 pub take-few : {X : Type 0} (n k : ℕ) (xs : List X) → n ≡ min k (length xs) → take n xs ≡ take k xs
-take-few zero zero [] e = refl
-take-few zero (suc k) [] e = refl
-take-few (suc n) k [] e = absurd (omega (arith, e))
+take-few n k [] e = take_all n [] (omega arith) ∙ sym (take_all k [] (omega arith))
 take-few zero zero (x ∷ xs) e = refl
-take-few zero (suc k) (x ∷ xs) e = absurd (omega (arith, e))
-take-few (suc n) zero (x ∷ xs) e = absurd (omega (arith, e))
 take-few (suc n) (suc k) (x ∷ xs) e = ap (λ ys. x ∷ ys) (take-few n k xs (omega (arith, e)))
+take-few n k xs e = absurd (omega (arith, e))
 
 -- more items of a ring wait to go to its end
 pub waits-taken : {X : Type 0} (items taken : List X) (waiting more number : ℕ) → more ≡ min number (length items - waiting) → taken ++ take (waiting + more) items ≡ (taken ++ take waiting items) ++ take number (drop waiting items)
@@ -112,11 +100,11 @@ pub next-left : {X : Type 0} (items : List X) (left : ℕ) → 0 < left → take
 next-left items left some = let all : 1 + (left - 1) ≡ left = omega arith in sym (drop-take 1 (left - 1) items) ∙ ap (λ m. drop 1 (take m items)) all
 
 pub next-taken : {X : Type 0} (items : List X) (left : ℕ) → 0 < left → drop (left - 1) (drop 1 items) ≡ drop left items
-next-taken items left some = let all : 1 + (left - 1) ≡ left = omega arith in drop-drop 1 (left - 1) items ∙ ap (λ m. drop m items) all
+next-taken items left some = let all : 1 + (left - 1) ≡ left = omega arith in drop-drop (left - 1) 1 items ∙ ap (λ m. drop m items) all
 
 -- an item more is gone
 pub next-drop : {X : Type 0} (all xs rest : List X) (n : ℕ) (x : X) → xs ≡ drop n all → xs ≡ x ∷ rest → rest ≡ drop (n + 1) all
-next-drop all xs rest n x at is = ap (drop 1) (sym is ∙ at) ∙ drop-drop n 1 all
+next-drop all xs rest n x at is = ap (drop 1) (sym is ∙ at) ∙ drop-drop 1 n all
 
 pub next-take : {X : Type 0} (all rest : List X) (n : ℕ) (x : X) → drop n all ≡ x ∷ rest → take (n + 1) all ≡ take n all ++ x ∷ []
 next-take [] rest n x e = let none : [] ≡ x ∷ rest = sym (drop_all n [] (omega arith)) ∙ e in absurd cc
@@ -131,10 +119,7 @@ none-drop (x ∷ all) (suc m) zero e few = absurd (omega arith)
 none-drop (x ∷ all) (suc m) (suc n) e few = none-drop all m n e (omega arith)
 
 pub none-take : {X : Type 0} (all : List X) (m n : ℕ) → drop m all ≡ [] → m ≤ n → take m all ≡ take n all
-none-take [] zero zero e few = refl
-none-take [] zero (suc n) e few = refl
-none-take [] (suc m) zero e few = absurd (omega arith)
-none-take [] (suc m) (suc n) e few = refl
+none-take [] m n e few = take_all m [] (omega arith) ∙ sym (take_all n [] (omega arith))
 none-take (x ∷ all) zero n e few = absurd cc
 none-take (x ∷ all) (suc m) zero e few = absurd (omega arith)
 none-take (x ∷ all) (suc m) (suc n) e few = ap (λ ys. x ∷ ys) (none-take all m n e (omega arith))

@@ -2,12 +2,11 @@
 use Rattle.std.proofs.Common.{◌≡◌, ◌≤◌, ◌+◌, ◌∙◌, ℕ, List, [], ◌∷◌, ◌++◌, length, take, drop, ap, sym, subst, arith, append_assoc, append-nil}
 use Rattle.std.specs.Prelude.{◌-◌, Some, slice_get}
 use Rattle.std.proofs.Math.Seq.{take-add, take-length}
-use Rattle.std.proofs.lemmas.List.{take_more}
-use Rattle.std.proofs.lemmas.Option.{slice_get_within, get_or_from_slice_get}
 use Rattle.rule_changes.specs.Changes.{Weaves, AreWoven, ended}
 use Rattle.view_rules.specs.Facts.{Facts}
 use Rattle.view_change.specs.Numbers.{joined}
 use Rattle.view_change.specs.Settled.{IsSettled, AreSettled}
+use Rattle.view_change.proofs.Joined.{take-next}
 use Rattle.view_change.proofs.Weaving.{append-woven, more-stay, more-differ}
 
 -- nothing is told yet
@@ -75,8 +74,7 @@ settled-rest {passed = passed} {gone = gone} {lost = lost} {come = come} read al
 -- one that was passed was read at a place
 pub settled-at : {X : Type 0} {passed gone lost come made : List X} (read : List X) (place : ℕ) (x : X) → slice_get read place ≡ Some x → IsSettled passed (take place read) gone lost come made → IsSettled (passed ++ x ∷ []) (take (place + 1) read) gone lost come made
 settled-at {passed = passed} {gone = gone} {lost = lost} {come = come} {made = made} read place x at so =
-    let one : take (place + 1) read ≡ take place read ++ x ∷ [] = take_more read place x (slice_get_within read place x at) ∙ ap (λ y. take place read ++ y ∷ []) (get_or_from_slice_get read place x x at) in
-    subst (λ xs. IsSettled (passed ++ x ∷ []) xs gone lost come made) (sym one) (settled-same x so)
+    subst (λ xs. IsSettled (passed ++ x ∷ []) xs gone lost come made) (sym (take-next read place x at)) (settled-same x so)
 
 -- the facts that are the same
 pub same_of : {passed read gone lost come made : Facts} → AreSettled passed read gone lost come made → Facts

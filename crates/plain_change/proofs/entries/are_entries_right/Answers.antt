@@ -1,5 +1,4 @@
 use Rattle.std.proofs.Common.{sym, ◌∙◌}
-use Rattle.std.specs.List.{list_any}
 use Rattle.apfs_model.proofs.BoolTests.{not-true}
 use Rattle.view_rules.specs.Names.{has_other_ascii_hash}
 use Rattle.view_rules.specs.Entries.{lacks_parent, lacks_inode, has_other_kind}

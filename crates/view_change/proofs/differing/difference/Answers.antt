@@ -1,4 +1,4 @@
-use Rattle.std.proofs.Common.{◌≡◌, ◌∙◌, ◌+◌, ◌≤◌, true, List, [], length, ap, sym, subst, arith}
+use Rattle.std.proofs.Common.{◌≡◌, ◌∙◌, ◌+◌, ◌≤◌, ℕ, Some, true, List, [], length, ap, sym, subst, arith}
 use Rattle.std.specs.Prelude.{Option, IfSome}
 use Rattle.bt_keys.specs.Shapes.{fs_shape}
 use Rattle.bt_node.specs.declared.node.NodeAt.{NodeAt}
@@ -15,10 +15,11 @@ use Rattle.view_change.specs.declared.changing.Changing.{Changing}
 use Rattle.view_change.specs.Kept.{facts_of, leaves_of}
 use Rattle.view_change.specs.Shared.{StayInOrder, ShareLeaves, IsWithin}
 use Rattle.view_change.specs.Changing.{leaves_left, HasChanged, HasDifference}
-use Rattle.view_change.specs.Difference.{view_leaves, new_nodes}
+use Rattle.view_change.specs.Difference.{view_places, view_leaves, new_nodes}
 use Rattle.view_change.specs.Walked.{IsTaken}
 use Rattle.view_change.proofs.Passes.{at-some}
 use Rattle.view_change.proofs.Differs.{kept-view, kept-names, places-within, begins-so}
+use Rattle.view_change.proofs.differing.difference.Goals.{After-walk_leaves}
 use Rattle.view_change.proofs.differing.difference.Goals as goal
 
 pub returns-clause-after : goal.returns-clause-after
@@ -60,33 +61,26 @@ returns-clause-reads g c image leaves told had =
     (c.in_ok-changing.ensures.reads c.new-changing.result image told (c.new-changing.ensures.begun site image volume.names leaves had)) in
     subst within (sym (nodes-hashed image site volume view hashed)) (subst (λ (o : Contents). within (nodes_of (tree_in fs_shape site (λ oid. named_by o.records view.xid site.blocks oid) image) view.root_oid)) same few)
 
-pub returns-in_default-clause-reads_met : goal.returns-in_default-clause-reads_met
-returns-in_default-clause-reads_met g c image told =
+-- no more is read than the view has places
+few-met : (g : _) (c : After-walk_leaves g) (image : List ℕ) → g.S.BlockSource.bytes c.args.src.now ≡ Some image →
+    g.S.BlockSource.reads c.walk_leaves.new.src ≤ g.S.BlockSource.reads c.args.src.now + length (view_places image c.args.site.now c.args.volume.now c.args.view.now)
+few-met g c image told =
     let volume = c.args.volume.now in
     let same : c.volume.inside.omap ≡ volume.omap = ap (λ (v : Loaded). v.omap) c.volume.view_is in
     let hashed : are_hashed volume.names ≡ true = ap (λ (v : Loaded). are_hashed v.names) (sym c.volume.view_is) ∙ (sym c.are_hashed.ensures ∙ c.if-not-are_hashed.false) in
     places-within image c.args.site.now volume c.args.view.now c.volume.inside.omap (g.S.BlockSource.reads c.args.src.now) (g.S.BlockSource.reads c.walk_leaves.new.src) same hashed (c.walk_leaves.ensures.reads_met image told)
+
+pub returns-in_default-clause-reads_met : goal.returns-in_default-clause-reads_met
+returns-in_default-clause-reads_met g c = few-met g (goal.at.returns-in_default-clause-reads_met g c).After-walk_leaves
 
 pub returns-in_err-changing-clause-reads_met : goal.returns-in_err-changing-clause-reads_met
-returns-in_err-changing-clause-reads_met g c image told =
-    let volume = c.args.volume.now in
-    let same : c.volume.inside.omap ≡ volume.omap = ap (λ (v : Loaded). v.omap) c.volume.view_is in
-    let hashed : are_hashed volume.names ≡ true = ap (λ (v : Loaded). are_hashed v.names) (sym c.volume.view_is) ∙ (sym c.are_hashed.ensures ∙ c.if-not-are_hashed.false) in
-    places-within image c.args.site.now volume c.args.view.now c.volume.inside.omap (g.S.BlockSource.reads c.args.src.now) (g.S.BlockSource.reads c.walk_leaves.new.src) same hashed (c.walk_leaves.ensures.reads_met image told)
+returns-in_err-changing-clause-reads_met g c = few-met g (goal.at.returns-in_err-changing-clause-reads_met g c).After-walk_leaves
 
 pub returns-in_err-finish-clause-reads_met : goal.returns-in_err-finish-clause-reads_met
-returns-in_err-finish-clause-reads_met g c image told =
-    let volume = c.args.volume.now in
-    let same : c.volume.inside.omap ≡ volume.omap = ap (λ (v : Loaded). v.omap) c.volume.view_is in
-    let hashed : are_hashed volume.names ≡ true = ap (λ (v : Loaded). are_hashed v.names) (sym c.volume.view_is) ∙ (sym c.are_hashed.ensures ∙ c.if-not-are_hashed.false) in
-    places-within image c.args.site.now volume c.args.view.now c.volume.inside.omap (g.S.BlockSource.reads c.args.src.now) (g.S.BlockSource.reads c.walk_leaves.new.src) same hashed (c.walk_leaves.ensures.reads_met image told)
+returns-in_err-finish-clause-reads_met g c = few-met g (goal.at.returns-in_err-finish-clause-reads_met g c).After-walk_leaves
 
 pub returns-clause-reads_met : goal.returns-clause-reads_met
-returns-clause-reads_met g c image told =
-    let volume = c.args.volume.now in
-    let same : c.volume.inside.omap ≡ volume.omap = ap (λ (v : Loaded). v.omap) c.volume.view_is in
-    let hashed : are_hashed volume.names ≡ true = ap (λ (v : Loaded). are_hashed v.names) (sym c.volume.view_is) ∙ (sym c.are_hashed.ensures ∙ c.if-not-are_hashed.false) in
-    places-within image c.args.site.now volume c.args.view.now c.volume.inside.omap (g.S.BlockSource.reads c.args.src.now) (g.S.BlockSource.reads c.walk_leaves.new.src) same hashed (c.walk_leaves.ensures.reads_met image told)
+returns-clause-reads_met g c = few-met g (goal.at.returns-clause-reads_met g c).After-walk_leaves
 
 pub returns-clause-reads_new : goal.returns-clause-reads_new
 returns-clause-reads_new g c image told shares =

@@ -4,6 +4,7 @@ use Rattle.std.proofs.lemmas.List.{take_all}
 use Rattle.bt_cursor.specs.Tree.{Tree, tree_in}
 use Rattle.view_change.specs.Outline.{reads_in}
 use Rattle.view_change.proofs.Outlines.{AreOpened, opened-none, opened-next, left-next, part-left, outline-down}
+use Rattle.view_change.proofs.outline.below.Goals.{After-put_below}
 use Rattle.view_change.proofs.outline.below.Goals as goal
 
 pub separators-init : goal.separators-init
@@ -42,23 +43,17 @@ returns-clause-outlined g c image root start told outlined =
     let down : outline.level ≡ suc (outline.level - 1) = omega (arith, c.requires.upper) in
     outline-down tree root start (reads c.args.src.now) (reads c.separators.src) outline _ outlined down refl opened few
 
-pub returns-in_err-put_below-clause-reads : goal.returns-in_err-put_below-clause-reads
-returns-in_err-put_below-clause-reads g c =
+-- no more is read than separators ask for
+few-so-far : (g : _) (c : After-put_below g) → g.S.BlockSource.reads c.put_below.new.src ≤ g.S.BlockSource.reads c.args.src.now + reads_in c.args.outline.now.separators.items
+few-so-far g c =
     let reads = g.S.BlockSource.reads in
-    let all = c.deref-next-items.result.now in
-    let i = c.separators.next-index in
-    part-left all c.args.outline.now.separators.items i _ (reads c.args.src.now) (reads c.separators.src) (reads c.put_below.new.src) c.deref-next-items.ensures.value c.separators-test.true c.separators.invariant.few c.put_below.ensures.reads
+    part-left c.deref-next-items.result.now c.args.outline.now.separators.items c.separators.next-index _ (reads c.args.src.now) (reads c.separators.src) (reads c.put_below.new.src) c.deref-next-items.ensures.value c.separators-test.true c.separators.invariant.few c.put_below.ensures.reads
+
+pub returns-in_err-put_below-clause-reads : goal.returns-in_err-put_below-clause-reads
+returns-in_err-put_below-clause-reads g c = few-so-far g (goal.at.returns-in_err-put_below-clause-reads g c).After-put_below
 
 pub returns-then-not-branch-clause-reads : goal.returns-then-not-branch-clause-reads
-returns-then-not-branch-clause-reads g c =
-    let reads = g.S.BlockSource.reads in
-    let all = c.deref-next-items.result.now in
-    let i = c.separators.next-index in
-    part-left all c.args.outline.now.separators.items i _ (reads c.args.src.now) (reads c.separators.src) (reads c.put_below.new.src) c.deref-next-items.ensures.value c.separators-test.true c.separators.invariant.few c.put_below.ensures.reads
+returns-then-not-branch-clause-reads g c = few-so-far g (goal.at.returns-then-not-branch-clause-reads g c).After-put_below
 
 pub returns-then-len-site-clause-reads : goal.returns-then-len-site-clause-reads
-returns-then-len-site-clause-reads g c =
-    let reads = g.S.BlockSource.reads in
-    let all = c.deref-next-items.result.now in
-    let i = c.separators.next-index in
-    part-left all c.args.outline.now.separators.items i _ (reads c.args.src.now) (reads c.separators.src) (reads c.put_below.new.src) c.deref-next-items.ensures.value c.separators-test.true c.separators.invariant.few c.put_below.ensures.reads
+returns-then-len-site-clause-reads g c = few-so-far g (goal.at.returns-then-len-site-clause-reads g c).After-put_below

@@ -1,5 +1,5 @@
 use Rattle.std.proofs.Common.{[], List, refl, subst}
-use Rattle.std.specs.Prelude.{None, option_to_list}
+use Rattle.std.specs.Prelude.{None}
 use Rattle.view_change.specs.declared.kept.KeptLeaf.{KeptLeaf}
 use Rattle.view_change.specs.Changing.{HasChangedTo}
 use Rattle.view_change.proofs.Underway.{none-found}

@@ -1,5 +1,4 @@
 use Rattle.std.proofs.Common.{◌∙◌, [], ap, sym, subst}
-use Rattle.view_rules.specs.Facts.{Facts}
 use Rattle.view_change.specs.Kept.{IsHeld}
 use Rattle.view_change.specs.Numbers.{behind, no_facts_under}
 use Rattle.view_change.specs.Changing.{facts_before, held_after}

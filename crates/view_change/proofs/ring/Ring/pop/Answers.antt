@@ -1,5 +1,5 @@
-use Rattle.std.proofs.Common.{◌≡◌, ◌<◌, ◌≤◌, ◌-◌, List, length, take, drop, ap, sym, ◌∙◌, subst, arith}
-use Rattle.std.proofs.lemmas.List.{length-drop, length-take-le}
+use Rattle.std.proofs.Common.{◌<◌, ◌-◌, length, take, drop, ap, sym, ◌∙◌, subst, arith}
+use Rattle.std.proofs.lemmas.List.{length-drop}
 use Rattle.rule_index.specs.Order.{IsChain}
 use Rattle.view_change.proofs.Rings.{drop-chain, next-left, next-taken}
 use Rattle.view_change.proofs.ring.Ring.pop.Goals as goal
