@@ -1,8 +1,8 @@
 -- How what is told of views and of volumes adds up.
-use Rattle.std.proofs.Common.{◌≡◌, ◌∙◌, ℕ, zero, suc, ◌+◌, ◌<◌, List, [], ◌∷◌, ◌++◌, length, get_or, take, map, refl, sym, ap, subst, inl, inr, arith, append_assoc}
+use Rattle.std.proofs.Common.{◌≡◌, ◌∙◌, ℕ, ◌+◌, ◌<◌, List, [], ◌∷◌, ◌++◌, length, get_or, take, map, refl, sym, ap, subst, inl, inr, arith, append_assoc, append-nil}
 use Rattle.std.specs.Prelude.{flat_map, sum, filter}
 use Rattle.std.proofs.lemmas.Grind.{flat_map-append}
-use Rattle.std.proofs.lemmas.List.{map-append, take_more}
+use Rattle.std.proofs.lemmas.List.{map-append, get_or_default, take_more}
 use Rattle.std.proofs.lemmas.List.Sums.{sum_by-append}
 use Rattle.apfs_model.specs.Counts.{given}
 use Rattle.apfs_model.specs.Lists.{In}
@@ -40,10 +40,6 @@ pub counts-more : (a b c m n : ℕ) → given b ≡ given (a + m) → given c �
 counts-more a b c m n p q = omega arith
 
 -- ---- lists
-pub append-none : {X : Type 0} (xs : List X) → xs ++ [] ≡ xs
-append-none [] = refl
-append-none (x ∷ xs) = ap (λ ys. x ∷ ys) (append-none xs)
-
 pub sum-append : {X : Type 0} (f : X → ℕ) (xs ys : List X) → sum (map f (xs ++ ys)) ≡ sum (map f xs) + sum (map f ys)
 sum-append f xs ys = ap sum (map-append f xs ys) ∙ sum_by-append (λ n. n) (map f xs) (map f ys)
 
@@ -65,9 +61,7 @@ item-in xs i x low e = contains-in xs x i low (sym e)
 
 -- the item at a place, whatever stands for one beyond the end
 pub at-place : {X : Type 0} (xs : List X) (i : ℕ) (d : X) → i < length xs → get_or xs i d ≡ get_or xs i (get_or xs i d)
-at-place [] i d low = absurd (omega arith)
-at-place (x ∷ xs) zero d low = refl
-at-place (x ∷ xs) (suc i) d low = at-place xs i d (omega arith)
+at-place xs i d low = get_or_default xs i d (get_or xs i d) low
 
 -- what items up to a place were added to, with the next one
 pub items-more : {X : Type 0} (xs : List X) (i : ℕ) (x : X) (a b c : List X) → i < length xs → x ≡ get_or xs i x → b ≡ a ++ take i xs → c ≡ b ++ x ∷ [] → c ≡ a ++ take (i + 1) xs
@@ -76,7 +70,7 @@ items-more xs i x a b c low e p q = q ∙ (ap (λ ys. ys ++ x ∷ []) p ∙ (app
 -- the same of what is mapped first
 pub mapped-more : {X Y Z : Type 0} (f : Y → List Z) (m : X → Y) (xs : List X) (i : ℕ) (x : X) (a b c : List Z) → i < length xs → x ≡ get_or xs i x → b ≡ a ++ flat_map f (map m (take i xs)) → c ≡ b ++ f (m x) → c ≡ a ++ flat_map f (map m (take (i + 1) xs))
 mapped-more f m xs i x a b c low e p q =
-    appended-more f (map m (take i xs)) (m x ∷ []) a b c p (q ∙ ap (λ ys. b ++ ys) (sym (append-none (f (m x)))))
+    appended-more f (map m (take i xs)) (m x ∷ []) a b c p (q ∙ ap (λ ys. b ++ ys) (sym (append-nil (f (m x)))))
     ∙ ap (λ ys. a ++ flat_map f ys) (sym (map-append m (take i xs) (x ∷ [])) ∙ ap (map m) (sym (one-taken xs i x low e)))
 
 pub more-views : (profile : Profile) (image : List ℕ) (seen : Seen) (head : VolHead) (xs ys : List View) (a b c : Held) → AddsViews profile image seen head xs a b → AddsViews profile image seen head ys b c → AddsViews profile image seen head (xs ++ ys) a c
@@ -117,10 +111,10 @@ one-volume profile image seen volume a b c d same p e q =
       data_right = λ other one. in-single other head (λ h. profile ≡ Strict → HasRightData image seen h) q.right one;
       views = ap given (q.views_same ∙ counted) ∙ given-one a.views b.views (view_count image seen head) views.views_same;
       records = ap given (q.records_same ∙ recorded) ∙ (views.records ∙ ap (λ n. given (a.records + n)) (sum-one (records_of_volume image seen head)));
-      hashes = q.hashes_same ∙ (ap (λ (h : Held). h.hashes) e ∙ (views.hashes ∙ ap (λ ns. a.hashes ++ ns) (sym (append-none _))));
-      unreached = q.unreached ∙ (ap (λ (h : Held). h.unreached ++ unreached_under profile image seen head) e ∙ (ap (λ ns. ns ++ unreached_under profile image seen head) views.unreached_same ∙ ap (λ ns. a.unreached ++ ns) (sym (append-none _))));
-      unnamed = q.unnamed_same ∙ (ap (λ (h : Held). h.unnamed) e ∙ (views.unnamed ∙ ap (λ ns. a.unnamed ++ ns) (sym (append-none _))));
-      counts = q.counts ∙ (ap (λ (h : Held). h.counts ++ counts_under profile image seen head) e ∙ (ap (λ ns. ns ++ counts_under profile image seen head) views.counts_same ∙ ap (λ ns. a.counts ++ ns) (sym (append-none _))));
+      hashes = q.hashes_same ∙ (ap (λ (h : Held). h.hashes) e ∙ (views.hashes ∙ ap (λ ns. a.hashes ++ ns) (sym (append-nil _))));
+      unreached = q.unreached ∙ (ap (λ (h : Held). h.unreached ++ unreached_under profile image seen head) e ∙ (ap (λ ns. ns ++ unreached_under profile image seen head) views.unreached_same ∙ ap (λ ns. a.unreached ++ ns) (sym (append-nil _))));
+      unnamed = q.unnamed_same ∙ (ap (λ (h : Held). h.unnamed) e ∙ (views.unnamed ∙ ap (λ ns. a.unnamed ++ ns) (sym (append-nil _))));
+      counts = q.counts ∙ (ap (λ (h : Held). h.counts ++ counts_under profile image seen head) e ∙ (ap (λ ns. ns ++ counts_under profile image seen head) views.counts_same ∙ ap (λ ns. a.counts ++ ns) (sym (append-nil _))));
     }
   where
     in-single : {X : Type 0} (x y : X) (P : X → Type 0) → P y → In x (y ∷ []) → P x
@@ -152,8 +146,8 @@ pub one-view : (profile : Profile) (image : List ℕ) (seen : Seen) (head : VolH
 one-view profile image seen head view records noted a b rules counted told put = record {
   right = λ other one. in-single other view (HasViewRules profile image seen head) rules one;
   records = ap given (put.records_added ∙ ap (λ n. given (a.records + n)) counted) ∙ given-one a.records (record_count image seen head view);
-  hashes = put.hashes ∙ ap (λ ns. a.hashes ++ ns) (ap (filter tests.is_hash_note) told ∙ (hashes-of profile image seen head view ∙ sym (append-none _)));
-  unnamed = put.unnamed ∙ ap (λ ns. a.unnamed ++ ns) (ap (filter tests.is_unnamed_note) told ∙ (view-unnamed profile image seen head view ∙ sym (append-none _)));
+  hashes = put.hashes ∙ ap (λ ns. a.hashes ++ ns) (ap (filter tests.is_hash_note) told ∙ (hashes-of profile image seen head view ∙ sym (append-nil _)));
+  unnamed = put.unnamed ∙ ap (λ ns. a.unnamed ++ ns) (ap (filter tests.is_unnamed_note) told ∙ (view-unnamed profile image seen head view ∙ sym (append-nil _)));
   views_same = put.views_same;
   unreached_same = put.unreached_same;
   counts_same = put.counts_same;
@@ -186,8 +180,8 @@ again-added profile image seen volume ranges views passed view a b ready same is
     view-added profile image seen (site_of seen) volume view ranges passed.records [] a b ready refl same now.rules now.records (sym now.notes)
     (record {
       records_added = ap (λ (h : Held). h.records) e;
-      hashes = ap (λ (h : Held). h.hashes) e ∙ sym (append-none a.hashes);
-      unnamed = ap (λ (h : Held). h.unnamed) e ∙ sym (append-none a.unnamed);
+      hashes = ap (λ (h : Held). h.hashes) e ∙ sym (append-nil a.hashes);
+      unnamed = ap (λ (h : Held). h.unnamed) e ∙ sym (append-nil a.unnamed);
       views_same = ap (λ (h : Held). h.views) e;
       unreached_same = ap (λ (h : Held). h.unreached) e;
       counts_same = ap (λ (h : Held). h.counts) e;

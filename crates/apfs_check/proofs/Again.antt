@@ -4,6 +4,7 @@ use Rattle.std.specs.List.{list_all}
 use Rattle.std.specs.Prelude.{◌<◌, ◌≤◌, ◌||◌, false, nat_le, nat_lt, if◌then◌else◌, option_map, option_and_then}
 use Rattle.std.proofs.Math.Path.{fun_ext}
 use Rattle.apfs_model.proofs.BoolTests.{left-true, right-true, either-from, never-true, below-from, upto-from, all-in}
+use Rattle.apfs_model.proofs.Empty.{left-none, right-none, map-none}
 use Rattle.apfs_model.specs.Blocks.{in_container}
 use Rattle.apfs_model.specs.Counts.{given}
 use Rattle.apfs_model.specs.Lists.{In, greatest}
@@ -98,22 +99,13 @@ extents-again image site volume v w one = ap (λ (facts : Facts). map extent_of 
 
 -- notes tell of a view, but where one has none the other has none either
 mapped-none : {X Y : Type 0} (f g : X → Y) (xs : List X) → map f xs ≡ [] → map g xs ≡ []
-mapped-none f g [] e = refl
-mapped-none f g (x ∷ xs) e = absurd (cc)
-
-front-none : {X : Type 0} (xs ys : List X) → xs ++ ys ≡ [] → xs ≡ []
-front-none [] ys e = refl
-front-none (x ∷ xs) ys e = absurd (cc)
-
-back-none : {X : Type 0} (xs ys : List X) → xs ++ ys ≡ [] → ys ≡ []
-back-none [] ys e = e
-back-none (x ∷ xs) ys e = absurd (cc)
+mapped-none f g xs e = ap (map g) (map-none f xs e)
 
 notes-none : (profile : Profile) (v w : View) (facts : Facts) → notes_of profile v facts ≡ [] → notes_of profile w facts ≡ []
 unfolding notes_of
 notes-none Plain v w facts none =
-    ap₂ (λ (xs ys : List Note). xs ++ ys) (mapped-none (hash_note v) (hash_note w) _ (front-none (hash_notes v facts) (unnamed_notes v facts) none))
-    (mapped-none (unnamed_note v) (unnamed_note w) _ (back-none (hash_notes v facts) (unnamed_notes v facts) none))
+    ap₂ (λ (xs ys : List Note). xs ++ ys) (mapped-none (hash_note v) (hash_note w) _ (left-none (hash_notes v facts) (unnamed_notes v facts) none))
+    (mapped-none (unnamed_note v) (unnamed_note w) _ (right-none (hash_notes v facts) (unnamed_notes v facts) none))
 notes-none Strict v w facts none = mapped-none (unnamed_note v) (unnamed_note w) _ none
 
 -- a view that has the tree of one that passed passes too

@@ -6,7 +6,7 @@ use Rattle.apfs_model.specs.Lists.{In, through}
 use Rattle.obj_base.specs.declared.stop.Feature.{Feature}
 use Rattle.obj_base.specs.declared.stop.Feature.TheVariants.{Revert}
 use Rattle.obj_base.specs.declared.stop.Stop.{Stop}
-use Rattle.obj_base.specs.declared.stop.Stop.TheVariants.{Found as Fails, Unsupported, ReadFault, NoMemory}
+use Rattle.obj_base.specs.declared.stop.Stop.TheVariants.{Found as Fails, Unsupported}
 use Rattle.bt_node.specs.Shape.{Shape}
 use Rattle.bt_node.specs.Entries.{Pair, bytes_in}
 use Rattle.obj_base.specs.declared.site.Site.{Site}
@@ -84,11 +84,8 @@ no-feature false feature e = refl
 told-clear : (image : List ℕ) (seen : Seen) → IsAccounted image seen → (how : LookUp) (why : Stop WalkFault) → Told image seen how why → ⊥
 told-clear image seen w how (Fails (walks.Unsound block why)) t = reached.refutes image seen (sweeps.Unsound block (Node why)) t w
 told-clear image seen w how (Fails (walks.Unnamed oid)) t = reached.refutes image seen (sweeps.Unnamed (within_of how) oid (xid_of seen how)) t w
-told-clear image seen w how (Fails (walks.Order item)) t = t
-told-clear image seen w how (Fails walks.Counts) t = t
 told-clear image seen w how (Unsupported feature block) t = reached.refutes-feature image seen feature block t w
-told-clear image seen w how ReadFault t = t
-told-clear image seen w how NoMemory t = t
+told-clear image seen w how why t = t
 
 -- ---- the physical trees are whole
 tree-whole : {K : Type 0} (image : List ℕ) (seen : Seen) → IsAccounted image seen → (kind : TreeKind) (shape : Shape K) → IsWalkOf image seen kind ByBlock shape (in_container (site_of seen).blocks) →

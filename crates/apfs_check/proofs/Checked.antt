@@ -1,11 +1,12 @@
 -- What a check answers of a container that it has found right.
-use Rattle.std.proofs.Common.{◌≡◌, ◌∙◌, ℕ, ◌+◌, ◌-◌, ◌≤◌, List, [], ◌∷◌, ◌++◌, length, map, refl, sym, ap, subst, arith}
-use Rattle.std.specs.Prelude.{Option, None, Some, filter_map, flat_map, min, sum}
+use Rattle.std.proofs.Common.{◌≡◌, ◌∙◌, ℕ, ◌+◌, ◌-◌, ◌≤◌, List, [], ◌∷◌, ◌++◌, length, map, refl, sym, ap, subst, arith, append-nil}
+use Rattle.std.specs.Prelude.{Option, None, Some, filter_map, min, sum}
 use Rattle.std.specs.List.{cons_option, range_with_len}
 use Rattle.std.proofs.lemmas.List.FromFn.{length-range_with_len}
 use Rattle.std.proofs.lemmas.List.{length-map}
 use Rattle.apfs_model.specs.Counts.{given}
 use Rattle.apfs_model.specs.Lists.{In}
+use Rattle.apfs_model.proofs.Empty.{none-flat}
 use Rattle.apfs_model.proofs.Searches.{from-map}
 use Rattle.nx_block.specs.Super.{slots}
 use Rattle.nx_ring.specs.Checkpoint.{Seen, site_of}
@@ -25,14 +26,9 @@ use Rattle.apfs_check.specs.Notes.{skipped_notes, of_views, of_volumes, view_unn
 use Rattle.apfs_check.specs.Held.{Held, nothing_held, view_hashes, unreached_under, counts_under, AddsVolumes}
 use Rattle.apfs_check.specs.Report.{view_count, records_of_volume, views_in, records_in, Told, IsChecked}
 use Rattle.apfs_check.specs.Steps.{AreReady}
-use Rattle.apfs_check.proofs.Adding.{append-none}
 use Rattle.apfs_check.proofs.Browsed.{composed}
 
 -- ---- the notes
-none-of : {X Y : Type 0} (f : X → List Y) (xs : List X) → ((x : X) → f x ≡ []) → flat_map f xs ≡ []
-none-of f [] h = refl
-none-of f (x ∷ xs) h = ap (λ ys. ys ++ flat_map f xs) (h x) ∙ none-of f xs h
-
 notes-are : (profile : Profile) (image : List ℕ) (seen : Seen) →
     skipped_notes seen
     ++ (of_volumes (of_views (view_hashes profile)) image seen
@@ -43,13 +39,13 @@ unfolding notes_of
 notes-are Plain image seen = refl
 notes-are Strict image seen =
     let heads : List VolHead = heads_of image seen in
-    let hashes : of_volumes (of_views (view_hashes Strict)) image seen ≡ [] = none-of (of_views (view_hashes Strict) image seen) heads (λ head. none-of (view_hashes Strict image seen head) (views_of (volume_of image seen head) seen) (λ view. refl)) in
-    let unreached : of_volumes (unreached_under Strict) image seen ≡ [] = none-of (unreached_under Strict image seen) heads (λ head. refl) in
-    let counts : of_volumes (counts_under Strict) image seen ≡ [] = none-of (counts_under Strict image seen) heads (λ head. refl) in
+    let hashes : of_volumes (of_views (view_hashes Strict)) image seen ≡ [] = none-flat (of_views (view_hashes Strict) image seen) heads (λ head one. none-flat (view_hashes Strict image seen head) (views_of (volume_of image seen head) seen) (λ view rooted. refl)) in
+    let unreached : of_volumes (unreached_under Strict) image seen ≡ [] = none-flat (unreached_under Strict image seen) heads (λ head one. refl) in
+    let counts : of_volumes (counts_under Strict) image seen ≡ [] = none-flat (counts_under Strict image seen) heads (λ head one. refl) in
     let unnamed : List Note = of_volumes (of_views view_unnamed_notes) image seen in
     ap (λ ns. skipped_notes seen ++ (ns ++ (of_volumes (unreached_under Strict) image seen ++ (unnamed ++ of_volumes (counts_under Strict) image seen)))) hashes
     ∙ (ap (λ ns. skipped_notes seen ++ (ns ++ (unnamed ++ of_volumes (counts_under Strict) image seen))) unreached
-    ∙ (ap (λ ns. skipped_notes seen ++ (unnamed ++ ns)) counts ∙ ap (λ ns. skipped_notes seen ++ ns) (append-none unnamed)))
+    ∙ (ap (λ ns. skipped_notes seen ++ (unnamed ++ ns)) counts ∙ ap (λ ns. skipped_notes seen ++ ns) (append-nil unnamed)))
 
 -- ---- all that is told
 views-are : (image : List ℕ) (seen : Seen) → sum (map (view_count image seen) (heads_of image seen)) ≡ views_in image seen

@@ -1,16 +1,17 @@
 -- What is told of a volume's data, as the definitions have it.
-use Rattle.std.proofs.Common.{◌≡◌, ◌∙◌, ℕ, zero, suc, ◌+◌, ◌<◌, pos, Bool, true, false, List, [], ◌∷◌, ◌++◌, length, get_or, take, map, arith, refl, sym, ap, subst}
+use Rattle.std.proofs.Common.{◌≡◌, ◌∙◌, ℕ, ◌+◌, ◌<◌, pos, Bool, true, false, List, [], ◌∷◌, ◌++◌, length, get_or, take, map, arith, refl, sym, ap, subst}
 use Rattle.std.specs.Prelude.{◌^◌, not, filter, if◌then◌else◌}
 use Rattle.std.specs.Ordering.{int_eq}
 use Rattle.std.proofs.Math.Path.{fun_ext}
-use Rattle.std.proofs.lemmas.List.{map-append, take_more}
+use Rattle.std.proofs.lemmas.List.{map-append, get_or-map, take_more}
 use Rattle.std.proofs.lemmas.List.Elements.{filter-append}
 use Rattle.apfs_model.specs.Counts.{given}
 use Rattle.apfs_model.specs.Lists.{In}
+use Rattle.apfs_model.proofs.Empty.{map-none}
 use Rattle.apfs_model.proofs.Searches.{from-map}
 use Rattle.obj_base.specs.Stops.{Tells, NoFeature}
 use Rattle.obj_base.specs.declared.stop.Stop.{Stop}
-use Rattle.obj_base.specs.declared.stop.Stop.TheVariants.{Found, Unsupported, ReadFault, NoMemory}
+use Rattle.obj_base.specs.declared.stop.Stop.TheVariants.{Found, Unsupported}
 use Rattle.nx_ring.specs.Checkpoint.{Seen, site_of}
 use Rattle.fs_record.specs.declared.extents.FileExt.{FileExt}
 use Rattle.vol_view.specs.Volumes.{Loaded}
@@ -32,6 +33,7 @@ use Rattle.apfs_check.specs.Steps.{IsThere, IsReady}
 use Rattle.apfs_check.specs.declared.fault.Fault.{Fault}
 use Rattle.apfs_check.specs.declared.fault.Fault.TheVariants.{DataUnreached, DataCount}
 use Rattle.ext_ref.proofs.Members.{streams-same, unreached-same}
+use Rattle.apfs_check.proofs.Same.{map-map}
 use Rattle.apfs_check.proofs.There.{run-there, count-there}
 
 -- ---- the parts
@@ -66,11 +68,6 @@ wrong-same image seen volume ranges extents r p q =
     ∙ chosen-map (counted_in image seen head) (has_no_snapshots (volume_of image seen head)) (filter (is_miscounted size (volume_extents image seen head)) (volume_ranges image (site_of seen) head))))
 
 -- ---- one range more
-at-map : {X : Type 0} (f : X → ℕ) (xs : List X) (i : ℕ) (d : X) → i < length xs → get_or (map f xs) i 0 ≡ f (get_or xs i d)
-at-map f [] i d low = absurd (omega arith)
-at-map f (x ∷ xs) zero d low = refl
-at-map f (x ∷ xs) (suc i) d low = at-map f xs i d (omega arith)
-
 given-low : (n : ℕ) → n < 2 ^ 64 → n ≡ given n
 given-low n low = omega arith
 
@@ -88,7 +85,7 @@ wrong-more block_size extents ranges counts i none wrong later low same fits p q
     let n : ℕ = get_or counts i 0 in
     let told = with_streams block_size extents in
     let test = is_miscounted block_size extents in
-    let streams : n ≡ streams_of block_size extents r = ap (λ (cs : List ℕ). get_or cs i 0) same ∙ at-map (streams_of block_size extents) ranges i none low in
+    let streams : n ≡ streams_of block_size extents r = ap (λ (cs : List ℕ). get_or cs i 0) same ∙ get_or-map (streams_of block_size extents) ranges i none 0 low in
     let number : n ≡ given (streams_of block_size extents r) = given-low n fits ∙ ap given streams in
     let piece : (if int_eq r.count (pos n) then [] else (r, n) ∷ []) ≡ map told (filter test (r ∷ [])) =
     ap (λ m. if int_eq r.count (pos m) then [] else (r, n) ∷ []) streams
@@ -109,8 +106,7 @@ runs-stop profile image seen volume r runs same (Found fault) (strict, t) =
     let head = volume.head in
     subst (IsPresent profile image) (sym t.same) (strict-there profile image (DataUnreached head.slot t.run.0 t.run.1) strict (run-there image seen r.newest head r.sound t.run (subst (In t.run) same t.one)))
 runs-stop profile image seen volume r runs same (Unsupported feature block) p = absurd p
-runs-stop profile image seen volume r runs same ReadFault p = tt
-runs-stop profile image seen volume r runs same NoMemory p = tt
+runs-stop profile image seen volume r runs same stop p = tt
 
 pub counts-stop : (profile : Profile) (image : List ℕ) (seen : Seen) (volume : Loaded) → IsReady image seen volume → (wrong : List (NewRange × ℕ)) → wrong ≡ map (counted_in image seen volume.head) (miscounted_in image seen volume.head) →
     (stop : Stop Fault) → Tells (λ fault. (profile ≡ Strict) × IsCountFault volume.head.slot wrong fault) NoFeature stop → IsThere profile image stop
@@ -121,18 +117,9 @@ counts-stop profile image seen volume r wrong same (Found fault) (strict, t) =
     t.same ∙ ap (λ (item : NewRange × ℕ). DataCount head.slot item.0.first item.0.count item.1) m.1.1 in
     subst (IsPresent profile image) (sym fault_is) (strict-there profile image (DataCount head.slot m.0.first m.0.count (given (streams_in image seen head m.0))) strict (count-there image seen r.newest head r.sound m.0 m.1.0))
 counts-stop profile image seen volume r wrong same (Unsupported feature block) p = absurd p
-counts-stop profile image seen volume r wrong same ReadFault p = tt
-counts-stop profile image seen volume r wrong same NoMemory p = tt
+counts-stop profile image seen volume r wrong same stop p = tt
 
 -- ---- both told
-map-map : {X Y Z : Type 0} (f : Y → Z) (g : X → Y) (h : X → Z) (xs : List X) → ((x : X) → f (g x) ≡ h x) → map f (map g xs) ≡ map h xs
-map-map f g h [] e = refl
-map-map f g h (x ∷ xs) e = ap (λ z. z ∷ map f (map g xs)) (e x) ∙ ap (λ zs. h x ∷ zs) (map-map f g h xs e)
-
-map-none : {X Y : Type 0} (f : X → Y) (xs : List X) → map f xs ≡ [] → xs ≡ []
-map-none f [] e = refl
-map-none f (x ∷ xs) e = absurd (cc)
-
 pub data-added : (profile : Profile) (image : List ℕ) (seen : Seen) (volume : Loaded) (runs : List (ℕ × ℕ)) (wrong : List (NewRange × ℕ)) (a b c : Held) → runs ≡ unreached_in image seen volume.head → wrong ≡ map (counted_in image seen volume.head) (miscounted_in image seen volume.head) →
     (profile ≡ Strict → runs ≡ []) → (profile ≡ Strict → wrong ≡ []) → b ≡ record a { unreached = a.unreached ++ unless_strict profile (map (unreached_note volume.head) runs) } → c ≡ record b { counts = b.counts ++ unless_strict profile (map (wrong_note volume.head.slot) wrong) } →
     AddsData profile image seen volume.head a c

@@ -273,5 +273,4 @@ flawed_refutes profile image (inr t) w = refutes-feature profile image t.0 t.1.0
 pub check-free : (profile : Profile) (image : List ℕ) (stop : Stop Fault) → IsWellFormed profile image → Tells (IsPresent profile image) (IsFeature image) stop → IsFree stop
 check-free profile image (Fails fault) w p = refutes profile image fault p w
 check-free profile image (Unsupported feature block) w p = refutes-feature profile image feature block p w
-check-free profile image ReadFault w p = tt
-check-free profile image NoMemory w p = tt
+check-free profile image stop w p = tt

@@ -1,5 +1,6 @@
 -- The notes of views, kind by kind, are those of the container.
-use Rattle.std.proofs.Common.{◌≡◌, ℕ, Bool, true, false, cond, List, [], ◌∷◌, ◌++◌, map, filter, refl, ap, ◌∙◌}
+use Rattle.std.proofs.Common.{◌≡◌, ℕ, Bool, true, false, cond, List, [], ◌∷◌, ◌++◌, map, filter, refl, ap, ◌∙◌, append-nil}
+use Rattle.std.proofs.lemmas.List.Elements.{filter-append}
 use Rattle.nx_ring.specs.Checkpoint.{Seen, site_of}
 use Rattle.vol_view.specs.declared.head.VolHead.{VolHead}
 use Rattle.vol_view.specs.declared.volume.View.{View}
@@ -15,12 +16,6 @@ use Rattle.apfs_check.specs.Volumes.{volume_of}
 use Rattle.apfs_check.specs.Notes as notes
 use Rattle.apfs_check.specs.NoteTests as tests
 
-filter-append : {X : Type 0} (p : X → Bool) (xs ys : List X) → filter p (xs ++ ys) ≡ filter p xs ++ filter p ys
-filter-append p [] ys = refl
-filter-append {X} p (x ∷ xs) ys =
-    let more = filter-append p xs ys in
-    elim (p x) as (λ b. cond b (x ∷ filter p (xs ++ ys)) (filter p (xs ++ ys)) ≡ cond b (x ∷ filter p xs) (filter p xs) ++ filter p ys) [ true ↦ ap (λ zs. x ∷ zs) more | false ↦ more ]
-
 filter-made : {X Y : Type 0} (p : Y → Bool) (f : X → Y) (xs : List X) → ((x : X) → p (f x) ≡ true) → filter p (map f xs) ≡ map f xs
 filter-made p f [] h = refl
 filter-made p f (x ∷ xs) h = ap (λ b. cond b (f x ∷ filter p (map f xs)) (filter p (map f xs))) (h x) ∙ ap (λ ys. f x ∷ ys) (filter-made p f xs h)
@@ -28,10 +23,6 @@ filter-made p f (x ∷ xs) h = ap (λ b. cond b (f x ∷ filter p (map f xs)) (f
 filter-other : {X Y : Type 0} (p : Y → Bool) (f : X → Y) (xs : List X) → ((x : X) → p (f x) ≡ false) → filter p (map f xs) ≡ []
 filter-other p f [] h = refl
 filter-other p f (x ∷ xs) h = ap (λ b. cond b (f x ∷ filter p (map f xs)) (filter p (map f xs))) (h x) ∙ filter-other p f xs h
-
-append-none : {X : Type 0} (xs : List X) → xs ++ [] ≡ xs
-append-none [] = refl
-append-none (x ∷ xs) = ap (λ ys. x ∷ ys) (append-none xs)
 
 -- the notes of a view on inodes without entries
 pub unnamed-kind : (profile : Profile) (view : View) (facts : Facts) → filter tests.is_unnamed_note (notes_of profile view facts) ≡ unnamed_notes view facts
@@ -52,7 +43,7 @@ unfolding notes_of
 hash-kind Plain view facts =
     filter-append tests.is_hash_note (hash_notes view facts) (unnamed_notes view facts)
     ∙ (ap (λ ns. filter tests.is_hash_note (hash_notes view facts) ++ ns) (filter-other tests.is_hash_note (unnamed_note view) (filter (is_unnamed facts) facts.inodes) (λ f. refl))
-    ∙ (append-none (filter tests.is_hash_note (hash_notes view facts)) ∙ filter-made tests.is_hash_note (hash_note view) (filter (has_other_name_hash facts) facts.entries) (λ e. refl)))
+    ∙ (append-nil (filter tests.is_hash_note (hash_notes view facts)) ∙ filter-made tests.is_hash_note (hash_note view) (filter (has_other_name_hash facts) facts.entries) (λ e. refl)))
 hash-kind Strict view facts = filter-other tests.is_hash_note (unnamed_note view) (filter (is_unnamed facts) facts.inodes) (λ f. refl)
 
 -- the notes that a view's rules give, by kind, are those of which a container's notes are made

@@ -1,5 +1,5 @@
 -- Under Strict three kinds of note are faults, and all else is as under Plain.
-use Rattle.std.proofs.Common.{◌≡◌, ℕ, Bool, false, cond, List, [], ◌∷◌, map, filter, inl, inr, refl, ap, ◌∙◌, subst}
+use Rattle.std.proofs.Common.{◌≡◌, ℕ, List, map, refl, ap}
 use Rattle.std.specs.Prelude.{◌↔◌}
 use Rattle.apfs_model.specs.Lists.{In}
 use Rattle.obj_base.specs.declared.site.Site.{Site}
@@ -11,12 +11,7 @@ use Rattle.vol_view.specs.declared.head.VolHead.{VolHead}
 use Rattle.vol_view.specs.declared.volume.View.{View}
 use Rattle.ext_ref.specs.declared.range.NewRange.{NewRange}
 use Rattle.apfs_check.specs.Laws.{HasNoStrictNotes}
-use Rattle.apfs_model.proofs.BoolTests.{test_or}
-use Rattle.apfs_model.proofs.Searches.{in-filter}
-use Rattle.view_rules.specs.Words.{IsClear}
-use Rattle.view_rules.specs.Facts.{Facts}
-use Rattle.view_rules.specs.Names.{HasNameHashes, has_other_name_hash}
-use Rattle.tree_rules.specs.Notes.{hash_note, hash_notes}
+use Rattle.view_rules.specs.Names.{HasNameHashes}
 use Rattle.view_rules.specs.Rules.{view_facts, HasTreeRules}
 use Rattle.view_rules.specs.declared.profile.Profile.{Profile}
 use Rattle.view_rules.specs.declared.profile.Profile.TheVariants.{Plain, Strict}

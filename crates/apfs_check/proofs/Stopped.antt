@@ -4,7 +4,7 @@ use Rattle.apfs_model.specs.Lists.{In}
 use Rattle.obj_base.specs.Stops.{Tells, raised}
 use Rattle.obj_base.specs.declared.stop.Feature.{Feature}
 use Rattle.obj_base.specs.declared.stop.Stop.{Stop}
-use Rattle.obj_base.specs.declared.stop.Stop.TheVariants.{Found, Unsupported, ReadFault, NoMemory}
+use Rattle.obj_base.specs.declared.stop.Stop.TheVariants.{Found, Unsupported}
 use Rattle.obj_base.specs.declared.site.Site.{Site}
 use Rattle.nx_ring.specs.Ring.{IsRingFault, IsRingFeature}
 use Rattle.nx_ring.specs.Checkpoint.{Seen, site_of}
@@ -47,8 +47,7 @@ tells-there : {F : Type 0} (profile : Profile) (image : List ℕ) (say : F → F
     (stop : Stop F) → Tells fault feature stop → IsThere profile image (raised say stop)
 tells-there profile image say fault feature there named (Found f) p = there f p
 tells-there profile image say fault feature there named (Unsupported name block) p = named name block p
-tells-there profile image say fault feature there named ReadFault p = tt
-tells-there profile image say fault feature there named NoMemory p = tt
+tells-there profile image say fault feature there named stop p = tt
 
 pub ring-stops : (profile : Profile) (image : List ℕ) (stop : Stop RingFault) → Tells (IsRingFault image) (IsRingFeature image) stop → IsThere profile image (raised of_ring stop)
 ring-stops profile image stop p = tells-there profile image of_ring (IsRingFault image) (IsRingFeature image) (ring-there profile image) (ring-feature image) stop p

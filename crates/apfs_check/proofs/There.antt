@@ -1,5 +1,5 @@
 -- What the parts of a check tell is present in the container.
-use Rattle.std.proofs.Common.{◌≡◌, ℕ, List, Some, None, Ok, inl, inr, refl, sym, subst}
+use Rattle.std.proofs.Common.{◌≡◌, ℕ, List, None, Ok, inl, inr, refl, sym, subst}
 use Rattle.apfs_model.specs.Counts.{given}
 use Rattle.apfs_model.specs.Lists.{In}
 use Rattle.obj_base.specs.declared.stop.Feature.{Feature}
@@ -39,46 +39,22 @@ use Rattle.apfs_check.proofs.Told.{view-unsound, view-unnamed, view-feature}
 -- of block 0 and the candidates
 pub ring-there : (profile : Profile) (image : List ℕ) (fault : RingFault) → IsRingFault image fault → IsPresent profile image (of_ring fault)
 ring-there profile image rings.BlockZero p = p
-ring-there profile image (rings.Truncated have need) p = p
-ring-there profile image rings.NoCheckpoint p = p
+ring-there profile image fault p = p
 
 -- of named objects and of the account of blocks
 pub sweep-there : (profile : Profile) (image : List ℕ) (seen : Seen) → newest_of image ≡ Ok seen → (fault : ReachFault) → reach.Present image seen fault → IsPresent profile image (of_sweep seen.line.xid fault)
-sweep-there profile image seen e (sweeps.Unsound block why) p = record { seen = seen; newest = e; fact = p }
-sweep-there profile image seen e (sweeps.Unnamed within oid xid) p = record { seen = seen; newest = e; fact = p }
-sweep-there profile image seen e (sweeps.NamedTwice within oid xid) p = record { seen = seen; newest = e; fact = p }
-sweep-there profile image seen e (sweeps.OwnedTwice block) p = record { seen = seen; newest = e; fact = p }
-sweep-there profile image seen e (sweeps.Outside block) p = record { seen = seen; newest = e; fact = p }
-sweep-there profile image seen e (sweeps.UnusedMapping within oid xid) p = record { seen = seen; newest = e; fact = p }
-sweep-there profile image seen e (sweeps.Leaked block) p = record { seen = seen; newest = e; fact = p }
-sweep-there profile image seen e (sweeps.Missing block) p = record { seen = seen; newest = e; fact = p }
-sweep-there profile image seen e (sweeps.PoolLeaked block) p = record { seen = seen; newest = e; fact = p }
-sweep-there profile image seen e (sweeps.PoolMissing block) p = record { seen = seen; newest = e; fact = p }
-sweep-there profile image seen e (sweeps.FreeCount chunk) p = record { seen = seen; newest = e; fact = p }
 sweep-there profile image seen e (sweeps.Space (spaces.Unnamed within oid)) p = absurd p
 sweep-there profile image seen e (sweeps.Space (spaces.Unsound block why)) p = absurd p
-sweep-there profile image seen e (sweeps.Space spaces.Geometry) p = record { seen = seen; newest = e; fact = p }
-sweep-there profile image seen e (sweeps.Space (spaces.Cab i)) p = record { seen = seen; newest = e; fact = p }
-sweep-there profile image seen e (sweeps.Space (spaces.Cib i)) p = record { seen = seen; newest = e; fact = p }
-sweep-there profile image seen e (sweeps.Space (spaces.Index k)) p = record { seen = seen; newest = e; fact = p }
-sweep-there profile image seen e (sweeps.Space (spaces.Place block)) p = record { seen = seen; newest = e; fact = p }
-sweep-there profile image seen e (sweeps.Space spaces.FreeTotal) p = record { seen = seen; newest = e; fact = p }
-sweep-there profile image seen e (sweeps.Pool (pools.Index i)) p = record { seen = seen; newest = e; fact = p }
-sweep-there profile image seen e (sweeps.Pool pools.Count) p = record { seen = seen; newest = e; fact = p }
-sweep-there profile image seen e (sweeps.Pool (pools.Place block)) p = record { seen = seen; newest = e; fact = p }
 sweep-there profile image seen e (sweeps.Pool (pools.Unnamed oid)) p = absurd p
 sweep-there profile image seen e (sweeps.Pool (pools.Walk root why)) p = absurd p
 sweep-there profile image seen e (sweeps.Pool (pools.Value root item)) p = absurd p
-sweep-there profile image seen e (sweeps.Tree root (Some item)) p = record { seen = seen; newest = e; fact = p }
 sweep-there profile image seen e (sweeps.Tree root None) p = record { seen = seen; newest = e; fact = p }
-sweep-there profile image seen e (sweeps.Value root item) p = record { seen = seen; newest = e; fact = p }
+sweep-there profile image seen e fault p = record { seen = seen; newest = e; fact = p }
 
 -- of a walk
 pub walk-there : (profile : Profile) (image : List ℕ) (seen : Seen) → newest_of image ≡ Ok seen → (within : Within) (xid root : ℕ) (why : WalkFault) → reach.Present image seen (reached.of_walk within xid root why) → IsPresent profile image (of_walk within xid root why)
 walk-there profile image seen e within xid root (walks.Unsound block why) p = record { seen = seen; newest = e; fact = p }
-walk-there profile image seen e within xid root (walks.Unnamed oid) p = record { seen = seen; newest = e; fact = p }
-walk-there profile image seen e within xid root (walks.Order item) p = record { seen = seen; newest = e; fact = p }
-walk-there profile image seen e within xid root walks.Counts p = record { seen = seen; newest = e; fact = p }
+walk-there profile image seen e within xid root why p = record { seen = seen; newest = e; fact = p }
 
 pub feature-there : (image : List ℕ) (seen : Seen) → newest_of image ≡ Ok seen → (feature : Feature) (block : ℕ) → HasFeature image seen feature block → IsFeature image feature block
 feature-there image seen e feature block p = inr (record { seen = seen; newest = e; fact = p })
@@ -94,26 +70,7 @@ view-there profile image seen e head one view rooted n (trees.Unsound block why)
 view-there profile image seen e head one view rooted n (trees.Unnamed slot oid xid) (at, p) =
     subst (λ s. IsPresent profile image (Unnamed (Volume s) oid xid)) (sym at.0)
     (subst (λ x. IsPresent profile image (Unnamed (Volume view.slot) oid x)) (sym at.1) (record { seen = seen; newest = e; fact = view-unnamed image seen head view n oid p }))
-view-there profile image seen e head one view rooted n (trees.Order slot xid item) p = view-fault profile image seen e head one view rooted (trees.Order slot xid item) p
-view-there profile image seen e head one view rooted n (trees.Counts slot xid) p = view-fault profile image seen e head one view rooted (trees.Counts slot xid) p
-view-there profile image seen e head one view rooted n (trees.Record slot xid item why) p = view-fault profile image seen e head one view rooted (trees.Record slot xid item why) p
-view-there profile image seen e head one view rooted n (trees.DupName at) p = view-fault profile image seen e head one view rooted (trees.DupName at) p
-view-there profile image seen e head one view rooted n (trees.Hash at) p = view-fault profile image seen e head one view rooted (trees.Hash at) p
-view-there profile image seen e head one view rooted n (trees.NoParent at) p = view-fault profile image seen e head one view rooted (trees.NoParent at) p
-view-there profile image seen e head one view rooted n (trees.NoInode slot xid id name) p = view-fault profile image seen e head one view rooted (trees.NoInode slot xid id name) p
-view-there profile image seen e head one view rooted n (trees.KindMismatch at) p = view-fault profile image seen e head one view rooted (trees.KindMismatch at) p
-view-there profile image seen e head one view rooted n (trees.DirNames at) p = view-fault profile image seen e head one view rooted (trees.DirNames at) p
-view-there profile image seen e head one view rooted n (trees.Unreached at) p = view-fault profile image seen e head one view rooted (trees.Unreached at) p
-view-there profile image seen e head one view rooted n (trees.Children at) p = view-fault profile image seen e head one view rooted (trees.Children at) p
-view-there profile image seen e head one view rooted n (trees.Links at) p = view-fault profile image seen e head one view rooted (trees.Links at) p
-view-there profile image seen e head one view rooted n (trees.SiblingLost at) p = view-fault profile image seen e head one view rooted (trees.SiblingLost at) p
-view-there profile image seen e head one view rooted n (trees.ExtentOrder at) p = view-fault profile image seen e head one view rooted (trees.ExtentOrder at) p
-view-there profile image seen e head one view rooted n (trees.ExtentPlace at) p = view-fault profile image seen e head one view rooted (trees.ExtentPlace at) p
-view-there profile image seen e head one view rooted n (trees.ExtentUncovered at) p = view-fault profile image seen e head one view rooted (trees.ExtentUncovered at) p
-view-there profile image seen e head one view rooted n (trees.LinkTarget at) p = view-fault profile image seen e head one view rooted (trees.LinkTarget at) p
-view-there profile image seen e head one view rooted n (trees.Stream at) p = view-fault profile image seen e head one view rooted (trees.Stream at) p
-view-there profile image seen e head one view rooted n (trees.AttrOwner at) p = view-fault profile image seen e head one view rooted (trees.AttrOwner at) p
-view-there profile image seen e head one view rooted n (trees.NameHash at) p = view-fault profile image seen e head one view rooted (trees.NameHash at) p
+view-there profile image seen e head one view rooted n fault p = view-fault profile image seen e head one view rooted fault p
 
 -- a feature of block 0's areas or of the container
 pub ring-feature : (image : List ℕ) (feature : Feature) (block : ℕ) → IsRingFeature image feature block → IsFeature image feature block

@@ -1,11 +1,11 @@
 -- Going through the views of a volume that was loaded.
-use Rattle.std.proofs.Common.{◌≡◌, ◌∙◌, ℕ, zero, suc, ◌+◌, ◌-◌, ◌<◌, ◌≤◌, true, false, List, [], ◌∷◌, ◌++◌, length, None, Some, Option, map, take, inl, inr, refl, sym, ap, subst, arith}
+use Rattle.std.proofs.Common.{◌≡◌, ◌∙◌, ℕ, zero, suc, ◌+◌, ◌-◌, ◌<◌, ◌≤◌, true, false, List, [], ◌∷◌, ◌++◌, length, None, Some, Option, map, take, inl, inr, refl, sym, ap, subst, arith, append-nil}
 use Rattle.std.specs.Prelude.{◌^◌, ◌⊎◌, IfSome, slice_index_or, nat_lt, flat_map, slice_get, option_map}
 use Rattle.std.specs.List.{All}
 use Rattle.std.proofs.lemmas.Grind.{flat_map-append}
-use Rattle.std.proofs.lemmas.List.{length-map}
+use Rattle.std.proofs.lemmas.List.{length-map, take_more}
 use Rattle.std.proofs.lemmas.List.Elements.{All-head, All-tail}
-use Rattle.std.proofs.lemmas.Option.{slice_get-map}
+use Rattle.std.proofs.lemmas.Option.{slice_get-map, slice_get_within, get_or_from_slice_get}
 use Rattle.apfs_model.specs.Lists.{In}
 use Rattle.apfs_model.proofs.BoolTests.{not-false, other-true, right-true, upto-from}
 use Rattle.apfs_model.proofs.Searches.{from-map, in-flat_map, in-left, in-right, in-append}
@@ -34,16 +34,11 @@ use Rattle.apfs_check.specs.WellFormed.{HasViewRules}
 use Rattle.apfs_check.specs.DataSteps.{AreShortOrHoles}
 use Rattle.apfs_check.specs.Steps.{IsReady, snapshot_root}
 use Rattle.apfs_check.proofs.Same.{views-same, ranges-same}
-use Rattle.apfs_check.proofs.Adding.{append-none}
 use Rattle.apfs_check.proofs.Short.{all-in-list}
 
 -- ---- one item more of a list
 pub take-one : {X : Type 0} (xs : List X) (i : ℕ) (x : X) → slice_get xs i ≡ Some x → take (i + 1) xs ≡ take i xs ++ x ∷ []
-take-one [] i x e = absurd (cc)
-take-one (y ∷ ys) zero x e = let same : y ≡ x = cc in ap (λ z. z ∷ []) same
-take-one (y ∷ ys) (suc i) x e =
-    let next : suc i + 1 ≡ suc (i + 1) = omega arith in
-    ap (λ n. take n (y ∷ ys)) next ∙ ap (λ zs. y ∷ zs) (take-one ys i x e)
+take-one xs i x e = take_more xs i x (slice_get_within xs i x e) ∙ ap (λ y. take i xs ++ y ∷ []) (get_or_from_slice_get xs i x x e)
 
 -- ---- a view by its place
 pub past-place : (volume : Loaded) (seen : Seen) (place : ℕ) (view : View) → 0 < place → option_map (past_of volume) (slice_get volume.snaps (place - 1)) ≡ Some view → slice_get (views_of volume seen) place ≡ Some view
@@ -78,7 +73,7 @@ one-more f xs x a m same own all = λ y. (
   ]),
   (λ h. elim (in-append y (flat_map f xs) (f x ++ []) (subst (In y) (flat_map-append f xs (x ∷ [])) h)) as (λ _. In y (a ++ m)) [
     | inl k ↦ in-left y a m ((same y).1 k)
-    | inr k ↦ elim (all y (subst (In y) (append-none (f x)) k)) as (λ _. In y (a ++ m)) [ inl l ↦ in-left y a m l | inr r ↦ in-right y a m r ]
+    | inr k ↦ elim (all y (subst (In y) (append-nil (f x)) k)) as (λ _. In y (a ++ m)) [ inl l ↦ in-left y a m l | inr r ↦ in-right y a m r ]
   ]),
 )
 
@@ -101,7 +96,7 @@ extents-kept image site volume views i before view b at one same had = λ x. (
   (λ h. elim (in-append x (flat_map (view_extents image site volume) (take i views)) (view_extents image site volume view ++ [])
       (subst (In x) (flat_map-append (view_extents image site volume) (take i views) (view ∷ [])) (subst (λ vs. In x (flat_map (view_extents image site volume) vs)) (take-one views i view at) h))) as (λ _. In x b) [
         | inl k ↦ (had x).1 k
-        | inr k ↦ (had x).1 (in-flat_map (view_extents image site volume) before x (take i views) one (subst (In x) (sym same) (subst (In x) (append-none (view_extents image site volume view)) k)))
+        | inr k ↦ (had x).1 (in-flat_map (view_extents image site volume) before x (take i views) one (subst (In x) (sym same) (subst (In x) (append-nil (view_extents image site volume view)) k)))
       ]),
 )
 

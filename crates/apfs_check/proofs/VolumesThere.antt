@@ -161,14 +161,8 @@ heads-there profile image seen new (volumes.Unnamed Physical oid) (same, lost) =
           physical-unnamed image seen (Whole Newest) 160 ContainerMap (omap_oid_of seen.nx) (map-live image seen) (subst (λ o. in_container (site_of seen).blocks o ≡ None) same lost);
     })
 heads-there profile image seen new (volumes.Unnamed Container oid) (named, lost) = record { seen = seen; newest = new; fact = slot-unnamed image seen oid named lost }
-heads-there profile image seen new (volumes.Unnamed Ephemeral oid) p = absurd p
-heads-there profile image seen new (volumes.Unnamed (Volume slot) oid) p = absurd p
 heads-there profile image seen new (volumes.Omap fault) p = map-there profile image seen new (Whole Newest) 160 (omap_oid_of seen.nx) ContainerMap (container-naming image seen) fault p
-heads-there profile image seen new (volumes.Walk root why) p = absurd p
-heads-there profile image seen new (volumes.SnapRecord slot) p = absurd p
-heads-there profile image seen new (volumes.SnapCount slot) p = absurd p
-heads-there profile image seen new (volumes.SnapName slot) p = absurd p
-heads-there profile image seen new (volumes.OmapSnaps slot) p = absurd p
+heads-there profile image seen new fault p = absurd p
 
 -- ---- a volume whose superblock is sound
 -- the map that it names
@@ -230,10 +224,7 @@ load-here profile image seen new head one n sound (volumes.Walk root why) (same,
       oid_is = refl;
     } in
     metadata-there profile image seen new root (subst (IsRootNaming image seen SnapMetadata ByBlock) (sym same) r) why there
-load-here profile image seen new head one n sound (volumes.SnapRecord slot) p = record { seen = seen; newest = new; fact = record { head = head; one = one; there = p } }
-load-here profile image seen new head one n sound (volumes.SnapCount slot) p = record { seen = seen; newest = new; fact = record { head = head; one = one; there = p } }
-load-here profile image seen new head one n sound (volumes.SnapName slot) p = record { seen = seen; newest = new; fact = record { head = head; one = one; there = p } }
-load-here profile image seen new head one n sound (volumes.OmapSnaps slot) p = record { seen = seen; newest = new; fact = record { head = head; one = one; there = p } }
+load-here profile image seen new head one n sound fault p = record { seen = seen; newest = new; fact = record { head = head; one = one; there = p } }
 
 pub sound-head : (image : List ℕ) (seen : Seen) (head : VolHead) → In head (sound_heads image seen) → has_sound_super image (site_of seen) head ≡ true
 unfolding sound_heads

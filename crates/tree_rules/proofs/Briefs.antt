@@ -1,5 +1,5 @@
 -- What the rules say of what is kept of a view's facts they say of the facts.
-use Rattle.std.proofs.Common.{◌≡◌, ℕ, ◌+◌, Bool, true, false, cond, ◌&&◌, ◌||◌, ◌==◌, List, [], ◌∷◌, map, Some, None, inl, inr, refl, ap, sym, ◌∙◌}
+use Rattle.std.proofs.Common.{◌≡◌, ℕ, ◌+◌, Bool, true, false, cond, ◌&&◌, ◌||◌, ◌==◌, List, [], ◌∷◌, map, None, inl, inr, refl, ap, sym, ◌∙◌}
 use Rattle.std.specs.Prelude.{not, nat_lt, count_by, bytes_eq}
 use Rattle.std.specs.List.{fold, list_any}
 use Rattle.apfs_model.proofs.Searches.{in-map, from-map}
@@ -20,7 +20,7 @@ use Rattle.view_rules.specs.Extents.{is_disordered}
 use Rattle.view_rules.specs.Inodes.{target_name, holds_target, is_large_body, gives_target, lacks_target, has_large_body, lacks_owner, IsStream}
 use Rattle.view_rules.specs.Rules.{HasFactRules}
 use Rattle.view_rules.specs.declared.fault.TreeFault.{TreeFault}
-use Rattle.view_rules.specs.declared.fault.TreeFault.TheVariants.{Unsound, Unnamed, Order, Counts, Record, DupName, Hash, NoParent, NoInode, KindMismatch, DirNames, Unreached, Children, Links, SiblingLost, ExtentOrder, ExtentPlace, ExtentUncovered, LinkTarget, Stream, AttrOwner, NameHash}
+use Rattle.view_rules.specs.declared.fault.TreeFault.TheVariants.{DupName, NoInode, Unreached, LinkTarget, Stream, AttrOwner}
 use Rattle.view_rules.specs.declared.profile.Profile.{Profile}
 use Rattle.view_rules.specs.declared.profile.Profile.TheVariants.{Plain, Strict}
 use Rattle.view_facts.specs.Contents.{brief_body, brief, brief_facts}
@@ -126,29 +126,13 @@ unreached-kept facts id u = record { item = u.item; listed = u.listed; same = u.
 -- the faults
 pub shown-kept : (asked : Asked) (facts : Facts) (fault : TreeFault) → IsShown asked (brief_facts facts) fault → IsShown asked facts fault
 unfolding is_entry_repeated has_other_hash has_other_ascii_hash has_other_name_hash lacks_parent lacks_inode has_root has_other_kind is_misnamed is_root_named has_other_children has_other_links is_entry_lost is_link_lost is_map_lost is_unmarked is_disordered
-shown-kept asked facts (Unsound block why) there = there
-shown-kept asked facts (Unnamed slot oid xid) there = there
-shown-kept asked facts (Order slot xid item) there = there
-shown-kept asked facts (Counts slot xid) there = there
-shown-kept asked facts (Record slot xid item why) there = there
 shown-kept asked facts (DupName at) there = (there.0, dup-kept facts at.id at.name there.1)
-shown-kept asked facts (Hash at) there = there
-shown-kept asked facts (NoParent at) there = there
-shown-kept asked facts (NoInode slot xid id (Some name)) there = there
 shown-kept asked facts (NoInode slot xid id None) there = there
-shown-kept asked facts (KindMismatch at) there = there
-shown-kept asked facts (DirNames at) there = there
 shown-kept asked facts (Unreached at) there = (there.0, unreached-kept facts at.id there.1)
-shown-kept asked facts (Children at) there = there
-shown-kept asked facts (Links at) there = there
-shown-kept asked facts (SiblingLost at) there = there
-shown-kept asked facts (ExtentOrder at) there = there
-shown-kept asked facts (ExtentPlace at) there = there
-shown-kept asked facts (ExtentUncovered at) there = there
 shown-kept asked facts (LinkTarget at) there = (there.0, (let b = there.1 in record { item = b.item; listed = b.listed; same = b.same; breach = sym (same-target facts b.item) ∙ b.breach }))
 shown-kept asked facts (Stream at) there = (there.0, stream-kept facts at.id there.1)
 shown-kept asked facts (AttrOwner at) there = (there.0, broken-brief (lacks_owner (brief_facts facts)) (lacks_owner facts) id_of_fact (same-owner facts) (λ b. refl) facts.attributes at.id there.1)
-shown-kept asked facts (NameHash at) there = there
+shown-kept asked facts fault there = there
 
 -- the notes
 pub notes-kept : (profile : Profile) (view : View) (facts : Facts) → notes_of profile view (brief_facts facts) ≡ notes_of profile view facts

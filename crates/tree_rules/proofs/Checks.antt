@@ -7,7 +7,7 @@ use Rattle.vol_view.specs.declared.volume.View.{View}
 use Rattle.view_rules.specs.Facts.{Facts}
 use Rattle.view_rules.specs.Rules.{view_facts, HasFactRules, HasTreeRules, IsTreeFault}
 use Rattle.view_rules.specs.declared.fault.TreeFault.{TreeFault}
-use Rattle.view_rules.specs.declared.fault.TreeFault.TheVariants.{Unsound, Unnamed, Order, Counts, Record, DupName, Hash, NoParent, NoInode, KindMismatch, DirNames, Unreached, Children, Links, SiblingLost, ExtentOrder, ExtentPlace, ExtentUncovered, LinkTarget, Stream, AttrOwner, NameHash}
+use Rattle.view_rules.specs.declared.fault.TreeFault.TheVariants.{Unsound, Unnamed, Order, Counts, Record, NoInode}
 use Rattle.view_rules.specs.declared.profile.Profile.{Profile}
 use Rattle.view_facts.specs.Kept.{IsGatheredView}
 use Rattle.view_facts.specs.declared.gathering.ViewFacts.{ViewFacts}
@@ -34,24 +34,8 @@ shown-there asked image volume (Unnamed slot oid xid) there = absurd there
 shown-there asked image volume (Order slot xid item) there = absurd there
 shown-there asked image volume (Counts slot xid) there = absurd there
 shown-there asked image volume (Record slot xid item why) there = absurd there
-shown-there asked image volume (DupName at) there = there
-shown-there asked image volume (Hash at) there = there
-shown-there asked image volume (NoParent at) there = there
-shown-there asked image volume (NoInode slot xid id (Some name)) there = there
 shown-there asked image volume (NoInode slot xid id None) there = there
-shown-there asked image volume (KindMismatch at) there = there
-shown-there asked image volume (DirNames at) there = there
-shown-there asked image volume (Unreached at) there = there
-shown-there asked image volume (Children at) there = there
-shown-there asked image volume (Links at) there = there
-shown-there asked image volume (SiblingLost at) there = there
-shown-there asked image volume (ExtentOrder at) there = there
-shown-there asked image volume (ExtentPlace at) there = there
-shown-there asked image volume (ExtentUncovered at) there = there
-shown-there asked image volume (LinkTarget at) there = there
-shown-there asked image volume (Stream at) there = there
-shown-there asked image volume (AttrOwner at) there = there
-shown-there asked image volume (NameHash at) there = there
+shown-there asked image volume fault there = there
 
 -- a fault that the facts show is one of the view
 pub facts_fault : (asked : Asked) (image : List ℕ) (volume : Loaded) (gathered : ViewFacts) (fault : TreeFault) → IsGatheredView image asked.site.now volume asked.view.now gathered → IsShown asked gathered.facts fault → IsTreeFault asked.profile image asked.site.now volume asked.view.now asked.ranges.now fault

@@ -1,9 +1,8 @@
 -- Why a view is right that comes after another: by its notes, and by its difference.
-use Rattle.std.proofs.Common.{◌≡◌, ◌∙◌, ◌<◌, ◌≤◌, ◌+◌, ◌++◌, ℕ, suc, Bool, true, false, cond, List, [], ◌∷◌, length, map, filter, get_or, inl, inr, refl, ap, ap₂, sym, subst, arith}
-use Rattle.std.specs.Prelude.{◌⊎◌, ◌==◌, nat_lt, count_by, Option, None, Some, IfSome, Result, Ok, Err, IfOk}
-use Rattle.std.proofs.lemmas.Bool.Decides.{nat_tests}
+use Rattle.std.proofs.Common.{◌≡◌, ◌∙◌, ◌<◌, ◌≤◌, ◌+◌, ◌++◌, ℕ, suc, Bool, false, cond, List, [], ◌∷◌, length, map, filter, get_or, inl, inr, refl, ap, ap₂, sym, subst, arith}
+use Rattle.std.specs.Prelude.{◌⊎◌, ◌==◌, count_by, Option, None, Some, IfSome, Result, Ok, Err, IfOk}
 use Rattle.apfs_model.specs.Lists.{In}
-use Rattle.apfs_model.proofs.BoolTests.{test_or, equal-from, never-true}
+use Rattle.apfs_model.proofs.BoolTests.{test_or, equal-from, below-from, never-true}
 use Rattle.apfs_model.proofs.Empty.{left-none, right-none, map-none}
 use Rattle.apfs_model.proofs.Searches.{in-filter, in-map, from-map}
 use Rattle.obj_base.specs.declared.site.Site.{Site}
@@ -115,14 +114,11 @@ once (f ∷ fs) rise id = elim (test_or (f.id == id)) as (λ _. count_by (is_of 
       omega arith
 ]
 
-below : (a b : ℕ) → nat_lt a b ≡ true → a < b
-below a b e = grind (arith, nat_tests)
-
 -- no id has two inodes where they are in order
 pub chain-distinct : (facts : Facts) → IsChain inode_follows facts.inodes → HasDistinctInodes facts
 chain-distinct facts chain = once facts.inodes (λ k d low.
     let at : k + 1 ≡ suc k = omega arith in
-    below (get_or facts.inodes k d).id (get_or facts.inodes (suc k) d).id (ap (λ j. inode_follows (get_or facts.inodes k d) (get_or facts.inodes j d)) (sym at) ∙ chain k d (omega arith)))
+    below-from (get_or facts.inodes k d).id (get_or facts.inodes (suc k) d).id (ap (λ j. inode_follows (get_or facts.inodes k d) (get_or facts.inodes j d)) (sym at) ∙ chain k d (omega arith)))
 
 -- ---- what is told
 -- what a fact of an answer gives

@@ -18,6 +18,7 @@ use Rattle.bt_cursor.proofs.Places.{IsLevelled}
 use Rattle.fs_record.specs.Facts.{Fact, told_by, fact_of, read_extent, extents_of}
 use Rattle.fs_record.specs.declared.extents.FileExt.{FileExt}
 use Rattle.fs_record.specs.declared.fault.RecFault.{RecFault}
+use Rattle.reach_gather.proofs.VolumeLemmas.Heads.{from-filter_map}
 use Rattle.use_report.specs.Gathered.{some_extent, extent_in}
 
 -- ---- records
@@ -83,17 +84,6 @@ in-filter_map {X} {Y} f x y (z ∷ zs) (inl s) e =
 in-filter_map {X} {Y} f x y (z ∷ zs) (inr h) e =
     let later : In y (filter_map f zs) = in-filter_map f x y zs h e in
     elim (f z) as (λ (o : Option Y). In y (cons_option o (filter_map f zs))) [ None ↦ later | Some w ↦ inr later ]
-
-from-filter_map : {X Y : Type 0} (f : X → Option Y) (y : Y) (xs : List X) → In y (filter_map f xs) → (x : X) × (In x xs × (f x ≡ Some y))
-from-filter_map f y [] h = absurd h
-from-filter_map {X} {Y} f y (z ∷ zs) h =
-    let later : In y (filter_map f zs) → (x : X) × (In x (z ∷ zs) × (f x ≡ Some y)) = λ k. let t = from-filter_map f y zs k in (t.0, (inr t.1.0, t.1.1)) in
-    let go : (o : Option Y) → f z ≡ o → In y (cons_option o (filter_map f zs)) → (x : X) × (In x (z ∷ zs) × (f x ≡ Some y)) =
-    λ o. elim o as (λ o. f z ≡ o → In y (cons_option o (filter_map f zs)) → (x : X) × (In x (z ∷ zs) × (f x ≡ Some y))) [
-      | None ↦ λ e k. later k
-      | Some w ↦ λ e k. elim k as (λ _. (x : X) × (In x (z ∷ zs) × (f x ≡ Some y))) [ inl s ↦ (z, (inl refl, e ∙ ap Some (sym s))) | inr l ↦ later l ]
-    ] in
-    go (f z) refl h
 
 -- the fact of a record whose extent is read
 read-fact : (pair : Pair) (e : FileExt) (r : Result FileExt RecFault) → some_extent r ≡ Ok (Some e) → option_map (told_by pair) (value_of r) ≡ Some (told_by pair e)

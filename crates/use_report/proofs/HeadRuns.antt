@@ -131,9 +131,8 @@ runs-before (set ∷ sets) more (suc i) low = runs-before sets more i (omega ari
 runs-last : (sets : List Views) (set : Views) (i : ℕ) → i ≡ length sets → runs_at (sets ++ set ∷ []) i ≡ set.runs.items
 unfolding runs_at
 runs-last [] set zero e = refl
-runs-last [] set (suc i) e = absurd (omega arith)
-runs-last (s ∷ sets) set zero e = absurd (omega arith)
 runs-last (s ∷ sets) set (suc i) e = runs-last sets set i (omega arith)
+runs-last sets set i e = absurd (omega arith)
 
 pub own-none : (sets : List Views) → AreOwnSets 0 sets
 own-none sets i view low = absurd (omega arith)

@@ -32,9 +32,8 @@ push-before (z ∷ zs) x (suc i) y e = push-before zs x i y e
 
 pub push-last : {X : Type 0} (xs : List X) (x : X) (i : ℕ) → i ≡ length xs → slice_get (xs ++ x ∷ []) i ≡ Some x
 push-last [] x zero same = refl
-push-last [] x (suc i) same = absurd (let q : ⊥ = omega (arith, same) in q)
-push-last (z ∷ zs) x zero same = absurd (let q : ⊥ = omega (arith, same) in q)
 push-last (z ∷ zs) x (suc i) same = push-last zs x i (omega (arith, same))
+push-last xs x i same = absurd (let q : ⊥ = omega (arith, same) in q)
 
 -- a list with one more item is longer by one
 pub one-longer : {X : Type 0} (xs ys : List X) (x : X) → ys ≡ xs ++ x ∷ [] → length ys ≡ length xs + 1

@@ -32,19 +32,8 @@ use Rattle.reach_gather.specs.ViewParts.{is_in_view}
 
 -- the superblock of a snapshot is expected
 abbrev pub is_past_super : Expected → Bool
-is_past_super SpaceManager = false
-is_past_super ContainerMap = false
-is_past_super ReaperObject = false
-is_past_super ReapList = false
-is_past_super Jumpstart = false
-is_past_super (VolumeIn slot) = false
-is_past_super VolumeMap = false
-is_past_super ExtendedMetadata = false
 is_past_super (SnapshotSuper view) = true
-is_past_super (AddressBlock i) = false
-is_past_super (InfoBlock i) = false
-is_past_super (TreeRoot kind) = false
-is_past_super (TreeNode kind level) = false
+is_past_super e = false
 
 -- an object that is expected, and is looked up so, names what is looked up in a view: it is the view's volume, the superblock of the view's snapshot, or a node that is looked up in that view
 abbrev pub NamesIn : ViewAt → LookUp → Expected → Type 0
@@ -161,15 +150,13 @@ names-from image seen how SpaceManager me bytes = all-neither how SpaceManager (
 names-from image seen how ContainerMap me bytes = all-neither how ContainerMap (map_namings me bytes) (map-neither me bytes)
 names-from image seen how ReaperObject me bytes = all-neither how ReaperObject (unless_zero me 48 ReapList ByMapping (reaper_head_of bytes)) (unless-neither me 48 ReapList ByMapping (reaper_head_of bytes) refl refl)
 names-from image seen how ReapList me bytes = all-neither how ReapList (unless_zero me 32 ReapList ByMapping (reap_next_of bytes)) (unless-neither me 32 ReapList ByMapping (reap_next_of bytes) refl refl)
-names-from image seen how Jumpstart me bytes = tt
 names-from image seen how (VolumeIn slot) me bytes = volume-from image seen how slot me bytes
 names-from image seen how VolumeMap me bytes = all-neither how VolumeMap (map_namings me bytes) (map-neither me bytes)
-names-from image seen how ExtendedMetadata me bytes = tt
 names-from image seen how (SnapshotSuper view) me bytes = view-from how (SnapshotSuper view) me view bytes (λ at e. inr (inl (ap SnapshotSuper e)))
 names-from image seen how (AddressBlock i) me bytes = each-through (IsFrom how (AddressBlock i)) (manager_of seen) (λ manager. cab_namings (site_of seen).block_size me manager i bytes) (λ manager. all-neither how (AddressBlock i) (cab_namings (site_of seen).block_size me manager i bytes) (cab-neither seen me i bytes manager))
-names-from image seen how (InfoBlock i) me bytes = tt
 names-from image seen how (TreeRoot kind) me bytes = nodes-from me kind how (TreeRoot kind) (level_of bytes) (children_in kind bytes) refl
 names-from image seen how (TreeNode kind level) me bytes = nodes-from me kind how (TreeNode kind level) level (children_in kind bytes) refl
+names-from image seen how e me bytes = tt
 
 -- the newest superblock names neither
 pub roots-neither : (seen : Seen) → Each IsNeither (roots seen.nx)

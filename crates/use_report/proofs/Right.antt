@@ -7,7 +7,7 @@ use Rattle.apfs_model.specs.Lists.{In}
 use Rattle.apfs_model.proofs.BoolTests.{test_or, both-true, left-or, right-or, false-not}
 use Rattle.apfs_model.proofs.Searches.{in-left, in-right, in-map, get-in}
 use Rattle.obj_base.specs.declared.stop.Stop.{Stop}
-use Rattle.obj_base.specs.declared.stop.Stop.TheVariants.{Found, Unsupported, ReadFault, NoMemory}
+use Rattle.obj_base.specs.declared.stop.Stop.TheVariants.{Found, Unsupported}
 use Rattle.bt_keys.specs.Shapes.{ext_shape}
 use Rattle.bt_keys.specs.declared.record_key.ExtKey.{ExtKey}
 use Rattle.bt_cursor.specs.Tree.{Tree}
@@ -63,11 +63,8 @@ use Rattle.use_report.proofs.Walked.{volume-live, snapshot-live}
 told-clear : (image : List ℕ) (seen : Seen) → IsAccounted image seen → (how : LookUp) (why : Stop WalkFault) → Told image seen how why → ⊥
 told-clear image seen w how (Found (walks.Unsound block why)) t = reached.refutes image seen (sweeps.Unsound block (Node why)) t w
 told-clear image seen w how (Found (walks.Unnamed oid)) t = reached.refutes image seen (sweeps.Unnamed (within_of how) oid (xid_of seen how)) t w
-told-clear image seen w how (Found (walks.Order item)) t = t
-told-clear image seen w how (Found walks.Counts) t = t
 told-clear image seen w how (Unsupported feature block) t = reached.refutes-feature image seen feature block t w
-told-clear image seen w how ReadFault t = t
-told-clear image seen w how NoMemory t = t
+told-clear image seen w how why t = t
 
 references-whole : (image : List ℕ) (seen : Seen) → IsAccounted image seen → (root : ℕ) → IsRootNaming image seen ExtentRefs ByBlock root → is_right_tree image (site_of seen) root ≡ true
 unfolding misplaced has_counts tree_line is_right_tree has_long_values

@@ -4,7 +4,7 @@ use Rattle.std.specs.List.{list_any}
 use Rattle.obj_base.specs.Stops.{Tells}
 use Rattle.obj_base.specs.declared.site.Site.{Site}
 use Rattle.obj_base.specs.declared.stop.Stop.{Stop}
-use Rattle.obj_base.specs.declared.stop.Stop.TheVariants.{Found, Unsupported, ReadFault, NoMemory}
+use Rattle.obj_base.specs.declared.stop.Stop.TheVariants.{Found, Unsupported}
 use Rattle.bt_cursor.specs.Faults.{HasFeature}
 use Rattle.bt_cursor.specs.Gathered.{IsGathered, IsGatherFault}
 use Rattle.bt_cursor.specs.Line.{line_of}
@@ -53,8 +53,7 @@ unfolding view_line
 tells-hashed image site volume view (Found (gathers.Tree why)) e h = by-true (are_hashed volume.names) _ _ e h
 tells-hashed image site volume view (Found (gathers.Refused item)) e h = rw e h
 tells-hashed image site volume view (Unsupported feature block) e h = by-true (are_hashed volume.names) _ _ e h
-tells-hashed image site volume view ReadFault e h = tt
-tells-hashed image site volume view NoMemory e h = tt
+tells-hashed image site volume view stop e h = tt
 
 pub tells-plain : (image : List ℕ) (site : Site) (volume : Loaded) (view : View) (stop : Stop GatherFault) → are_hashed volume.names ≡ false
     → Tells (IsGatherFault (plain_tree image site volume view) view.root_oid is_refused) (HasFeature (plain_tree image site volume view) view.root_oid) stop → Tells (IsViewStop image site volume view) (IsViewFeature image site volume view) stop
@@ -62,8 +61,7 @@ unfolding view_line
 tells-plain image site volume view (Found (gathers.Tree why)) e h = by-false (are_hashed volume.names) _ _ e h
 tells-plain image site volume view (Found (gathers.Refused item)) e h = rw e h
 tells-plain image site volume view (Unsupported feature block) e h = by-false (are_hashed volume.names) _ _ e h
-tells-plain image site volume view ReadFault e h = tt
-tells-plain image site volume view NoMemory e h = tt
+tells-plain image site volume view stop e h = tt
 
 -- the files of a view that are whole are those of its tree
 abbrev IsReadableTree : {K : Type 0} → Tree K → ℕ → Type 0

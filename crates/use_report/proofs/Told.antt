@@ -35,11 +35,10 @@ use Rattle.use_report.proofs.Sets.{number-by, number-is}
 -- ---- items that go with one another, place by place
 zip-by : {X Y : Type 0} (R : X → Y → Type 0) (xs : List X) (ys : List Y) → length ys ≡ length xs → ((i : ℕ) (x : X) → slice_get xs i ≡ Some x → (y : Y) × (slice_get ys i ≡ Some y) × R x y) → AllZip R xs ys
 zip-by R [] [] long each = tt
-zip-by R [] (y ∷ ys) long each = absurd (let q : ⊥ = omega (arith, long) in q)
-zip-by R (x ∷ xs) [] long each = absurd (let q : ⊥ = omega (arith, long) in q)
 zip-by R (x ∷ xs) (y ∷ ys) long each =
     let t = each 0 x refl in
     (subst (R x) (sym (one-some y t.0 t.1)) t.2, zip-by R xs ys (omega (arith, long)) (λ i a e. each (suc i) a e))
+zip-by R xs ys long each = absurd (let q : ⊥ = omega (arith, long) in q)
 
 -- ---- a view's place is that in the list of its volume's views
 pasts-place : (volume : Loaded) (i j : ℕ) (snapshots : List Snapshot) (kept : KeptView) → slice_get (pasts_kept volume i snapshots) j ≡ Some kept → kept.place ≡ suc (i + j)

@@ -25,11 +25,7 @@ returns-in-Err-clause-exact g c image told right = check-free c.args.profile ima
 -- where a volume isn't loaded
 pub returns-in-Err-volumes_of-clause-present : goal.returns-in-Err-volumes_of-clause-present
 returns-in-Err-volumes_of-clause-present g c image told =
-    let profile = c.args.profile in
-    let seen = c.in-Ok.cp in
-    let newest = c.in-Ok.ensures.clear image told in
-    let first = c.newest_checkpoint.ensures.kept.same_bytes ∙ told in
-    c.in-Err-volumes_of.ensures.present profile image first newest
+    c.in-Err-volumes_of.ensures.present c.args.profile image (c.newest_checkpoint.ensures.kept.same_bytes ∙ told) (c.in-Ok.ensures.clear image told)
 
 pub returns-in-Err-volumes_of-clause-exact : goal.returns-in-Err-volumes_of-clause-exact
 returns-in-Err-volumes_of-clause-exact g c image told right = check-free c.args.profile image c.in-Err-volumes_of.stop right (returns-in-Err-volumes_of-clause-present g c image told)
@@ -37,14 +33,9 @@ returns-in-Err-volumes_of-clause-exact g c image told right = check-free c.args.
 -- where the account fails
 pub returns-in-Err-tally_of-clause-present : goal.returns-in-Err-tally_of-clause-present
 returns-in-Err-tally_of-clause-present g c image told =
-    let profile = c.args.profile in
-    let seen = c.in-Ok.cp in
-    let newest = c.in-Ok.ensures.clear image told in
     let first = c.newest_checkpoint.ensures.kept.same_bytes ∙ told in
-    let second = c.volumes_of.ensures.kept.same_bytes ∙ first in
-    let are = c.in-Ok-volumes_of.ensures.clear image first newest in
-    let tallied : AreReady image seen c.deref.result.now = subst (AreReady image seen) (sym c.deref.ensures.value) are in
-    c.in-Err-tally_of.ensures.present profile image second tallied
+    let are = c.in-Ok-volumes_of.ensures.clear image first (c.in-Ok.ensures.clear image told) in
+    c.in-Err-tally_of.ensures.present c.args.profile image (c.volumes_of.ensures.kept.same_bytes ∙ first) (subst (AreReady image c.in-Ok.cp) (sym c.deref.ensures.value) are)
 
 pub returns-in-Err-tally_of-clause-exact : goal.returns-in-Err-tally_of-clause-exact
 returns-in-Err-tally_of-clause-exact g c image told right = check-free c.args.profile image c.in-Err-tally_of.stop right (returns-in-Err-tally_of-clause-present g c image told)
@@ -52,16 +43,10 @@ returns-in-Err-tally_of-clause-exact g c image told right = check-free c.args.pr
 -- where a volume isn't right
 pub returns-in-Err-add_volumes-clause-present : goal.returns-in-Err-add_volumes-clause-present
 returns-in-Err-add_volumes-clause-present g c image told =
-    let profile = c.args.profile in
-    let seen = c.in-Ok.cp in
-    let newest = c.in-Ok.ensures.clear image told in
     let first = c.newest_checkpoint.ensures.kept.same_bytes ∙ told in
     let second = c.volumes_of.ensures.kept.same_bytes ∙ first in
-    let are = c.in-Ok-volumes_of.ensures.clear image first newest in
-    let tallied : AreReady image seen c.deref.result.now = subst (AreReady image seen) (sym c.deref.ensures.value) are in
-    let third = c.tally_of.ensures.kept.same_bytes ∙ second in
-    let added : AreReady image seen c.deref-2.result.now = subst (AreReady image seen) (sym c.deref-2.ensures.value) are in
-    c.in-Err-add_volumes.ensures.present image third added
+    let are = c.in-Ok-volumes_of.ensures.clear image first (c.in-Ok.ensures.clear image told) in
+    c.in-Err-add_volumes.ensures.present image (c.tally_of.ensures.kept.same_bytes ∙ second) (subst (AreReady image c.in-Ok.cp) (sym c.deref-2.ensures.value) are)
 
 pub returns-in-Err-add_volumes-clause-exact : goal.returns-in-Err-add_volumes-clause-exact
 returns-in-Err-add_volumes-clause-exact g c image told right = check-free c.args.profile image c.in-Err-add_volumes.stop right (returns-in-Err-add_volumes-clause-present g c image told)
@@ -71,10 +56,9 @@ pub returns-in-Ok-report-clause-clear : goal.returns-in-Ok-report-clause-clear
 returns-in-Ok-report-clause-clear g c image told =
     let profile = c.args.profile in
     let seen = c.in-Ok.cp in
-    let newest = c.in-Ok.ensures.clear image told in
     let first = c.newest_checkpoint.ensures.kept.same_bytes ∙ told in
     let second = c.volumes_of.ensures.kept.same_bytes ∙ first in
-    let are = c.in-Ok-volumes_of.ensures.clear image first newest in
+    let are = c.in-Ok-volumes_of.ensures.clear image first (c.in-Ok.ensures.clear image told) in
     let tallied : AreReady image seen c.deref.result.now = subst (AreReady image seen) (sym c.deref.ensures.value) are in
     let third = c.tally_of.ensures.kept.same_bytes ∙ second in
     let added : AreReady image seen c.deref-2.result.now = subst (AreReady image seen) (sym c.deref-2.ensures.value) are in
@@ -101,10 +85,9 @@ pub returns-in-Ok-report-clause-reads : goal.returns-in-Ok-report-clause-reads
 returns-in-Ok-report-clause-reads g c image manager other told named has =
     let reads = g.S.BlockSource.reads in
     let seen = c.in-Ok.cp in
-    let newest = c.in-Ok.ensures.clear image told in
     let first = c.newest_checkpoint.ensures.kept.same_bytes ∙ told in
     let second = c.volumes_of.ensures.kept.same_bytes ∙ first in
-    let are = c.in-Ok-volumes_of.ensures.clear image first newest in
+    let are = c.in-Ok-volumes_of.ensures.clear image first (c.in-Ok.ensures.clear image told) in
     let tallied : AreReady image seen c.deref.result.now = subst (AreReady image seen) (sym c.deref.ensures.value) are in
     let third = c.tally_of.ensures.kept.same_bytes ∙ second in
     let volumes = c.in-Ok-volumes_of.volumes.items in

@@ -1,4 +1,4 @@
-use Rattle.std.proofs.Common.{◌≡◌, ◌∙◌, ℕ, List, ◌+◌, ◌<◌, ◌≤◌, ◌∷◌, [], ◌++◌, length, map, take, inl, refl, sym, ap, subst, arith}
+use Rattle.std.proofs.Common.{◌≡◌, ◌∙◌, ℕ, List, ◌+◌, ◌<◌, ◌≤◌, ◌∷◌, [], length, map, take, inl, refl, sym, ap, subst, arith}
 use Rattle.std.specs.Prelude.{◌^◌, flat_map, sum, Some}
 use Rattle.std.proofs.lemmas.List.{take_all}
 use Rattle.apfs_model.proofs.Searches.{get-in}

@@ -1,6 +1,5 @@
-use Rattle.std.proofs.Common.{ℕ, ◌≡◌, ◌+◌, ◌-◌, ◌<◌, ◌||◌, ap, ◌∙◌, arith}
+use Rattle.std.proofs.Common.{ℕ, ◌+◌, ◌-◌, ◌||◌, ap, ◌∙◌}
 use Rattle.std.specs.Prelude.{min}
-use Rattle.std.proofs.lemmas.Bool.Decides.{nat_tests}
 use Rattle.bit_lanes.specs.Places.{is_from}
 use Rattle.view_sweep.specs.Runs.{has_place}
 use Rattle.use_report.proofs.HeadRuns.{none-next, next-is}

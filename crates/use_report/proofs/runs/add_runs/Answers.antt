@@ -1,6 +1,5 @@
-use Rattle.std.proofs.Common.{◌≡◌, ℕ, ◌+◌, ◌-◌, ◌<◌, ◌≤◌, take, get_or, length, arith}
+use Rattle.std.proofs.Common.{◌+◌, ◌-◌, ◌<◌, ◌≤◌, take, get_or, arith}
 use Rattle.std.proofs.lemmas.List.{take_more, take_all}
-use Rattle.std.proofs.lemmas.Bool.{cases_lt}
 use Rattle.view_sweep.specs.Runs.{has_place}
 use Rattle.view_sweep.proofs.Rises.{nowhere, place-at, rising-at, begins-rise}
 use Rattle.use_report.proofs.HeadRuns.{far-none, far-next, far-all}
