@@ -1,11 +1,12 @@
--- What is known of the objects in the data area stays true.
-use Rattle.std.proofs.Common.{◌≡◌, ℕ, Bool, true, false, cond, List, Option, Some, refl, ap, sym, ◌∙◌}
+-- What is known of the objects in the data area stays true, and what a source keeps over some calls.
+use Rattle.std.proofs.Common.{◌≡◌, ℕ, Bool, true, false, cond, List, Option, Some, refl, ap, sym, ◌∙◌, arith}
 use Rattle.std.specs.BTreeMap.{BTreeMap, get, IsEmpty}
 use Rattle.std.specs.Map.{lookup}
 use Rattle.std.specs.Ordering.{nat_cmp, is_eq}
 use Rattle.std.specs.declared.cmp.Ordering.{Ordering}
 use Rattle.std.specs.declared.cmp.Ordering.TheVariants.{Less, Equal, Greater}
 use Rattle.std.proofs.lemmas.Map.Lookups.{exact_pairs, exact_unsigned}
+use Rattle.apfs_model.specs.Kept.{IsKept}
 use Rattle.nx_ring.specs.declared.areas.Areas.{Areas}
 use Rattle.nx_ring.specs.declared.known.Head.{Head}
 use Rattle.nx_ring.specs.Known.{sound_head, object_from, place_cmp, AreKnown}
@@ -30,3 +31,7 @@ keeps image areas old new place sound was is updates = λ block size got e. step
 -- nothing is known at first
 pub none_known : (image : List ℕ) (areas : Areas) (new : BTreeMap (ℕ × ℕ) (Option Head)) → IsEmpty new → AreKnown image areas new
 none_known image areas new e = λ block size got f. let none = ap (lookup (λ k. is_eq (place_cmp (block, size) k))) e in absurd (Prim.cc)
+
+-- what a source keeps over some calls, and then over some more, it keeps over all of them
+pub kept_on : {S : Type 0} {bytes : S → Option (List ℕ)} {size faults : S → ℕ} {old mid new : S} → IsKept bytes size faults old mid → IsKept bytes size faults mid new → IsKept bytes size faults old new
+kept_on one other = record { same_bytes = other.same_bytes ∙ one.same_bytes; same_size = other.same_size ∙ one.same_size; later = Prim.omega (arith, one.later, other.later) }

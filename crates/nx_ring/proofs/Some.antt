@@ -1,5 +1,5 @@
 -- What a clause says of a value that is there.
-use Rattle.std.proofs.Common.{◌≡◌, ℕ, zero, suc, ◌<◌, Bool, true, false, ◌&&◌, List, [], ◌∷◌, length, get_or, Option, Some, None, IfSome, refl, ap, sym, subst, ◌∙◌, if◌then◌else◌, arith}
+use Rattle.std.proofs.Common.{◌≡◌, ℕ, zero, suc, ◌<◌, Bool, true, false, ◌&&◌, List, [], ◌∷◌, ◌++◌, length, get_or, Option, Some, None, IfSome, refl, ap, sym, subst, ◌∙◌, if◌then◌else◌, arith}
 use Rattle.std.specs.Option.{is_some}
 use Rattle.std.specs.List.{list_all}
 
@@ -14,6 +14,15 @@ none_chosen false x o e f = refl
 pub some_chosen : {X : Type 0} (b : Bool) (x : X) (o : Option X) → o ≡ (if b then Some x else None) → is_some o ≡ true → b ≡ true
 some_chosen true x o e f = refl
 some_chosen false x o e f = sym (ap is_some e) ∙ f
+
+-- what is there was chosen, and the test that chose passed
+pub chosen_is : {X : Type 0} (b : Bool) (x y : X) (o : Option X) → o ≡ (if b then Some x else None) → o ≡ Some y → (b ≡ true) × (y ≡ x)
+chosen_is true x y o e f = (refl, Prim.cc)
+chosen_is false x y o e f = absurd (Prim.cc)
+
+-- a list with one item more
+pub grown : {X : Type 0} (new old part all : List X) (x y : X) → new ≡ old ++ y ∷ [] → old ≡ part → y ≡ x → all ≡ part ++ x ∷ [] → new ≡ all
+grown new old part all x y e f g h = Prim.cc
 
 -- one item that fails fails a list
 pub all_fail : {X : Type 0} (p : X → Bool) (xs : List X) (i : ℕ) (d : X) → i < length xs → p (get_or xs i d) ≡ false → list_all p xs ≡ false

@@ -98,7 +98,10 @@ pub(crate) fn lines<S: BlockSource>(
 {
     let mut lines = Vec::new(alloc);
     'indices: for index in 0..areas.desc_blocks {
-        let found = candidate_at(alloc, src, areas, index)?;
+        let found = match candidate_at(alloc, src, areas, index) {
+            Ok(found) => found,
+            Err(stop) => return Err(stop),
+        };
         keep(&mut lines, found)?;
     }
     Ok(lines)

@@ -117,7 +117,6 @@ fn are_placed(areas: &Areas, mappings: &[Mapping]) -> bool
 }
 
 // The oids of mappings.
-#[tactic(auto, using(crate::proofs::More::ids_more))]
 fn ids_of(alloc: Global, mappings: &[Mapping]) -> Result<Vec<u64>, Stop<RingFault>>
     ensures found { IfOk result (λ ids. ids.items ≡ valid.ids_of mappings.now) }
     ensures memory_only { IfErr result (λ stop. stop ≡ NoMemory) }
@@ -130,7 +129,6 @@ fn ids_of(alloc: Global, mappings: &[Mapping]) -> Result<Vec<u64>, Stop<RingFaul
 }
 
 // Adds the blocks of a mapping.
-#[tactic(auto, using(crate::proofs::More::object_more), unfolding(crate::specs::Objects::is_placed))]
 fn add_blocks(areas: &Areas, m: &Mapping, into: &mut Vec<u64>) -> Result<(), Stop<RingFault>>
     requires some { 0 < areas.now.size }
     requires placed { objects.is_placed areas.now m.now ≡ true }

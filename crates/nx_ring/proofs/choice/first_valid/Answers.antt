@@ -1,11 +1,13 @@
-use Rattle.std.proofs.Common.{◌≡◌, ◌∙◌, [], ℕ, IfSome, get_or, length, if◌then◌else◌, refl, ap, sym, subst, arith}
+use Rattle.std.proofs.Common.{◌≡◌, ◌∙◌, [], ℕ, IfSome, get_or, length, option_map, if◌then◌else◌, refl, ap, sym, subst, arith}
 use Rattle.std.proofs.lemmas.Grind.{common_steps}
+use Rattle.std.proofs.lemmas.List.{take_all}
+use Rattle.std.specs.List.{find}
 use Rattle.nx_ring.specs.declared.line.RingLine.{RingLine}
 use Rattle.nx_ring.specs.Valid.{is_valid, blocks_of, mappings_of}
 use Rattle.nx_ring.specs.Newest.{seen_of}
 use Rattle.nx_ring.specs.Reading.{loaded, IsHeld}
 use Rattle.nx_ring.proofs.Some.{none_chosen, some_chosen}
-use Rattle.nx_ring.proofs.Kept.{none_known}
+use Rattle.nx_ring.proofs.Kept.{kept_on, none_known}
 use Rattle.nx_ring.proofs.Tried.{find_more, find_here}
 use Rattle.nx_ring.proofs.Room.{reads_last, reads_none}
 use Rattle.nx_ring.proofs.choice.first_valid.Goals as goal
@@ -33,11 +35,7 @@ each-preserved g c =
           let chosen = c.in_ok-found.ensures.found image (old.kept.same_bytes ∙ told) (old.known image told) (at i none c.each-test.true) in
           find_more (is_valid image areas) lines i none c.each-test.true (old.none image told at) (none_chosen (is_valid image areas line) (seen_of image areas [] line) c.in_ok-found.found chosen empty);
       known = λ image told. c.in_ok-found.ensures.known image (old.kept.same_bytes ∙ told) (old.known image told);
-      kept = record {
-        same_bytes = kept.same_bytes ∙ old.kept.same_bytes;
-        same_size = kept.same_size ∙ old.kept.same_size;
-        later = Prim.omega (arith, kept.later, old.kept.later);
-      };
+      kept = kept_on old.kept kept;
       reads = λ image told at.
           let chosen = c.in_ok-found.ensures.found image (old.kept.same_bytes ∙ told) (old.known image told) (at i none c.each-test.true) in
           let no = none_chosen (is_valid image areas line) (seen_of image areas [] line) c.in_ok-found.found chosen empty in
@@ -73,6 +71,11 @@ returns-in_err-found-clause-reads g c image told at few =
     let none : RingLine = record { index = 0; block = 0; xid = 0; desc_index = 0; desc_len = 0 } in
     let old = c.each.invariant in
     Prim.omega (arith, c.in_err-found.ensures.reads image (old.kept.same_bytes ∙ told) (old.known image told), old.reads image told at, reads_last image c.args.areas.now (get_or c.args.lines.now c.each.line-index none) c.each.line-index _ c.requires.fits.some_data c.requires.fits.some_desc few c.each-test.true)
+
+pub returns-clause-found : goal.returns-clause-found
+returns-clause-found g c image told at =
+    let p = is_valid image c.args.areas.now in
+    sym (ap (option_map (seen_of image c.args.areas.now [])) (sym (ap (find p) (take_all c.each.line-index c.args.lines.now (Prim.omega (arith, c.each-test.false)))) ∙ c.each.invariant.none image told at))
 
 pub returns-clause-reads : goal.returns-clause-reads
 returns-clause-reads g c image told at few =

@@ -1,9 +1,11 @@
-use Rattle.std.proofs.Common.{◌≡◌, ◌∙◌, [], Some, map, refl, ap, arith}
+use Rattle.std.proofs.Common.{◌≡◌, ◌∙◌, ◌+◌, [], Some, map, refl, ap, arith}
 use Rattle.std.proofs.lemmas.Grind.{common_steps}
 use Rattle.std.specs.Option.{is_some}
+use Rattle.blk_read.proofs.Sizes.{accepted_size}
 use Rattle.nx_ring.specs.Candidates.{ring_block}
 use Rattle.nx_ring.specs.Objects.{place_at}
 use Rattle.nx_ring.proofs.Some.{some_at}
+use Rattle.nx_ring.proofs.Fitting.{block_fits}
 use Rattle.nx_ring.proofs.Read.{seen_is, objects_there}
 use Rattle.nx_ring.proofs.choice.load.Goals as goal
 
@@ -32,3 +34,9 @@ returns-clause-found g c image told at valid same =
     let read : c.in_ok-superblock.superblock.items ≡ ring_block image c.args.areas.now c.args.line.now.index = Prim.grind (arith, common_steps, c.in_ok-superblock.ensures.found image told) in
     let mapped = some_at _ c.in-Some-2.is (c.in_ok-objects.ensures.listed image (c.in_ok-superblock.ensures.kept.same_bytes ∙ told)) in
     ap Some (c.of.ensures ∙ seen_is image c.args.areas.now c.args.line.now.index c.args.line.now c.in_ok-superblock.superblock.items c.in-Some-2.objects.items [] refl read (mapped ∙ ap (map (place_at image c.args.areas.now)) same) refl)
+
+pub read_new-requires : goal.read_new-requires
+read_new-requires g c =
+    let areas = c.args.areas.now in
+    let size = accepted_size areas.size c.requires.fits.accepted in
+    record { some = Prim.omega (arith, size.0); short = size.1; inside = block_fits areas.size (areas.desc_base + c.from.result) (areas.desc_base + areas.desc_blocks) _ (Prim.omega (arith, c.from.ensures, c.requires.inside)) c.requires.fits.desc }

@@ -2,6 +2,7 @@ use Rattle.std.proofs.Common.{◌≡◌, ◌∙◌, ◌++◌, ◌+◌, [], ℕ, 
 use Rattle.apfs_model.specs.Blocks.{block_of}
 use Rattle.apfs_model.specs.Object.{sum_field}
 use Rattle.apfs_model.specs.Sum.{sum_of, weighted, stored_sum}
+use Rattle.blk_read.proofs.Sizes.{accepted_size}
 use Rattle.nx_ring.specs.Objects.{mapped_part, mapped_bytes, data_block, object_blocks}
 use Rattle.nx_ring.specs.Known.{is_summed}
 use Rattle.nx_ring.specs.Sums.{words_after, IsSumOf}
@@ -9,6 +10,7 @@ use Rattle.nx_ring.proofs.More.{part_more}
 use Rattle.nx_ring.proofs.Parts.{words_joined, even_blocks, header_fits, some_blocks, starts_inside}
 use Rattle.nx_ring.proofs.Fitting.{block_fits}
 use Rattle.nx_ring.proofs.Heads.{first_head}
+use Rattle.nx_ring.proofs.Kept.{kept_on}
 use Rattle.nx_ring.proofs.known.is_summed.Goals as goal
 
 pub parts-init : goal.parts-init
@@ -39,11 +41,7 @@ parts-preserved g c =
           let same = c.in_ok-block.ensures.found image (old.kept.same_bytes ∙ told) ∙ ap (block_of areas.size image) c.data_block.ensures.here in
           let block : length (block_of areas.size image (data_block areas m.paddr t)) ≡ areas.size = sym (ap length same) ∙ c.in_ok-block.ensures.long in
           Prim.omega (arith, ap length (part_more image areas m t), length-append (mapped_part image areas m t) (block_of areas.size image (data_block areas m.paddr t)), block, old.long image told e);
-      kept = record {
-        same_bytes = kept.same_bytes ∙ old.kept.same_bytes;
-        same_size = kept.same_size ∙ old.kept.same_size;
-        later = Prim.omega (arith, kept.later, old.kept.later);
-      };
+      kept = kept_on old.kept kept;
       reads = Prim.omega (arith, c.in_ok-block.ensures.reads, old.reads);
     }
 
@@ -64,13 +62,11 @@ returns-clause-found g c image told e =
 pub returns-clause-reads : goal.returns-clause-reads
 returns-clause-reads g c = Prim.omega (arith, some_blocks c.args.areas.now c.args.m.now c.requires.placed, c.parts.auto.t-end, c.parts-test.false, c.parts.invariant.reads)
 
-pub data_block-requires-clause-starts : goal.data_block-requires-clause-starts
-data_block-requires-clause-starts g c = (starts_inside c.args.areas.now c.args.m.now c.requires.placed).0
+pub data_block-requires : goal.data_block-requires
+data_block-requires g c = let in_area = starts_inside c.args.areas.now c.args.m.now c.requires.placed in record { starts = in_area.0; inside = in_area.1; small = c.requires.fits.small_data }
 
-pub data_block-requires-clause-inside : goal.data_block-requires-clause-inside
-data_block-requires-clause-inside g c = (starts_inside c.args.areas.now c.args.m.now c.requires.placed).1
-
-pub read_new-requires-clause-inside : goal.read_new-requires-clause-inside
-read_new-requires-clause-inside g c =
+pub read_new-requires : goal.read_new-requires
+read_new-requires g c =
     let areas = c.args.areas.now in
-    block_fits areas.size c.data_block.result (areas.data_base + areas.data_blocks) _ c.data_block.ensures.high (Prim.omega (arith, c.requires.fits.«data», c.parts.invariant.kept.same_size))
+    let size = accepted_size areas.size c.requires.fits.accepted in
+    record { some = Prim.omega (arith, size.0); short = size.1; inside = block_fits areas.size c.data_block.result (areas.data_base + areas.data_blocks) _ c.data_block.ensures.high (Prim.omega (arith, c.requires.fits.«data», c.parts.invariant.kept.same_size)) }

@@ -1,6 +1,7 @@
 use Rattle.std.proofs.Common.{◌≡◌, ◌∙◌, ◌&&◌, ◌+◌, ◌≤◌, true, false, length, ap, sym, arith}
 use Rattle.std.proofs.lemmas.Grind.{common_steps}
 use Rattle.apfs_model.specs.Blocks.{block_of}
+use Rattle.blk_read.proofs.Sizes.{accepted_size}
 use Rattle.nx_ring.specs.Objects.{mapped_part, mapped_bytes}
 use Rattle.nx_ring.specs.Known.{head_of, is_plain, is_expected}
 use Rattle.nx_ring.proofs.Fitting.{block_fits}
@@ -55,16 +56,14 @@ returns-clause-known g c image told was =
     let right = c.in_ok-summed.ensures.found image (c.in_ok-first.ensures.kept.same_bytes ∙ told) part in
     c.in_ok-keep.ensures.known image areas was (Prim.grind (arith, common_steps, c.then_some.ensures, right, plain, h.0, c.head_in-head.ensures))
 
-pub data_block-requires-clause-starts : goal.data_block-requires-clause-starts
-data_block-requires-clause-starts g c = (starts_inside c.args.areas.now c.args.m.now c.requires.placed).0
+pub data_block-requires : goal.data_block-requires
+data_block-requires g c = let in_area = starts_inside c.args.areas.now c.args.m.now c.requires.placed in record { starts = in_area.0; inside = in_area.1; small = c.requires.fits.small_data }
 
-pub data_block-requires-clause-inside : goal.data_block-requires-clause-inside
-data_block-requires-clause-inside g c = (starts_inside c.args.areas.now c.args.m.now c.requires.placed).1
-
-pub read_new-requires-clause-inside : goal.read_new-requires-clause-inside
-read_new-requires-clause-inside g c =
+pub read_new-requires : goal.read_new-requires
+read_new-requires g c =
     let areas = c.args.areas.now in
-    block_fits areas.size c.data_block.result (areas.data_base + areas.data_blocks) _ c.data_block.ensures.high c.requires.fits.«data»
+    let size = accepted_size areas.size c.requires.fits.accepted in
+    record { some = Prim.omega (arith, size.0); short = size.1; inside = block_fits areas.size c.data_block.result (areas.data_base + areas.data_blocks) _ c.data_block.ensures.high c.requires.fits.«data» }
 
 pub returns-in_err-first-clause-reads : goal.returns-in_err-first-clause-reads
 returns-in_err-first-clause-reads g c = Prim.omega (arith, some_blocks c.args.areas.now c.args.m.now c.requires.placed, c.in_err-first.ensures.reads)

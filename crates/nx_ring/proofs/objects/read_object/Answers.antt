@@ -1,21 +1,21 @@
-use Rattle.std.proofs.Common.{◌≡◌, ◌∙◌, ◌+◌, ◌*◌, ◌++◌, length, ap, sym, arith, length-append}
+use Rattle.std.proofs.Common.{◌≡◌, ◌∙◌, ◌+◌, ◌*◌, ap, arith, length-append}
 use Rattle.apfs_model.specs.Blocks.{block_of}
+use Rattle.blk_read.proofs.Sizes.{accepted_size}
 use Rattle.nx_ring.specs.Objects.{mapped_part, data_block, object_blocks}
 use Rattle.nx_ring.proofs.Fitting.{block_fits}
 use Rattle.nx_ring.proofs.More.{part_more}
 use Rattle.nx_ring.proofs.Parts.{starts_inside, whole_blocks}
+use Rattle.nx_ring.proofs.Kept.{kept_on}
 use Rattle.nx_ring.proofs.objects.read_object.Goals as goal
 
-pub data_block-requires-clause-starts : goal.data_block-requires-clause-starts
-data_block-requires-clause-starts g c = (starts_inside c.args.areas.now c.args.m.now c.requires.placed).0
+pub data_block-requires : goal.data_block-requires
+data_block-requires g c = let in_area = starts_inside c.args.areas.now c.args.m.now c.requires.placed in record { starts = in_area.0; inside = in_area.1; small = c.requires.fits.small_data }
 
-pub data_block-requires-clause-inside : goal.data_block-requires-clause-inside
-data_block-requires-clause-inside g c = (starts_inside c.args.areas.now c.args.m.now c.requires.placed).1
-
-pub read_new-requires-clause-inside : goal.read_new-requires-clause-inside
-read_new-requires-clause-inside g c =
+pub read_new-requires : goal.read_new-requires
+read_new-requires g c =
     let areas = c.args.areas.now in
-    block_fits areas.size c.data_block.result (areas.data_base + areas.data_blocks) _ c.data_block.ensures.high (Prim.omega (arith, c.requires.fits.«data», c.parts.invariant.kept.same_size))
+    let size = accepted_size areas.size c.requires.fits.accepted in
+    record { some = Prim.omega (arith, size.0); short = size.1; inside = block_fits areas.size c.data_block.result (areas.data_base + areas.data_blocks) _ c.data_block.ensures.high (Prim.omega (arith, c.requires.fits.«data», c.parts.invariant.kept.same_size)) }
 
 pub parts-preserved : goal.parts-preserved
 parts-preserved g c =
@@ -33,11 +33,7 @@ parts-preserved g c =
           let more = part_more image areas m t in
           Prim.cc;
       long = rw c.in_ok-extend_from_slice.ensures.items (Prim.omega (arith, length-append c.parts.bytes.items block, c.deref.ensures.len, c.in_ok-block.ensures.long, old.long));
-      kept = record {
-        same_bytes = kept.same_bytes ∙ old.kept.same_bytes;
-        same_size = kept.same_size ∙ old.kept.same_size;
-        later = Prim.omega (arith, kept.later, old.kept.later);
-      };
+      kept = kept_on old.kept kept;
       reads = Prim.omega (arith, c.in_ok-block.ensures.reads, old.reads);
     }
 
@@ -47,3 +43,8 @@ returns-clause-len g c =
     let m = c.args.m.now in
     let all : c.parts.t ≡ object_blocks areas m = Prim.omega (arith, c.parts.auto.t-end, c.parts-test.false) in
     c.parts.invariant.long ∙ (ap (λ n. areas.size * n) all ∙ whole_blocks areas m c.requires.placed)
+
+pub returns-clause-found : goal.returns-clause-found
+returns-clause-found g c image told =
+    let all : c.parts.t ≡ object_blocks c.args.areas.now c.args.m.now = Prim.omega (arith, c.parts.auto.t-end, c.parts-test.false) in
+    c.parts.invariant.found image told ∙ ap (mapped_part image c.args.areas.now c.args.m.now) all

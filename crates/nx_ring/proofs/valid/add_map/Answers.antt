@@ -1,5 +1,6 @@
 use Rattle.std.proofs.Common.{◌≡◌, ◌∙◌, ◌+◌, ◌++◌, ℕ, List, ap, sym, arith}
 use Rattle.apfs_model.specs.Blocks.{block_of}
+use Rattle.blk_read.proofs.Sizes.{accepted_size}
 use Rattle.nx_ring.specs.declared.areas.Areas.{Areas}
 use Rattle.nx_ring.specs.declared.line.RingLine.{RingLine}
 use Rattle.nx_ring.specs.Candidates.{ring_block}
@@ -16,10 +17,11 @@ is_there : (image : List ℕ) (areas : Areas) (line : RingLine) (j index : ℕ) 
 unfolding is_map_after
 is_there image areas line j index bytes here e = let same = there image areas line j index bytes here e in Prim.cc
 
-pub read_new-requires-clause-inside : goal.read_new-requires-clause-inside
-read_new-requires-clause-inside g c =
+pub read_new-requires : goal.read_new-requires
+read_new-requires g c =
     let areas = c.args.areas.now in
-    block_fits areas.size (areas.desc_base + c.index_after.result) (areas.desc_base + areas.desc_blocks) _ (Prim.omega (arith, c.index_after.ensures.inside)) c.requires.desc
+    let size = accepted_size areas.size c.requires.accepted in
+    record { some = Prim.omega (arith, size.0); short = size.1; inside = block_fits areas.size (areas.desc_base + c.index_after.result) (areas.desc_base + areas.desc_blocks) _ (Prim.omega (arith, c.index_after.ensures.inside)) c.requires.desc }
 
 pub returns-then-not-is_map-clause-found : goal.returns-then-not-is_map-clause-found
 returns-then-not-is_map-clause-found g c image told =

@@ -1,7 +1,8 @@
-use Rattle.std.proofs.Common.{sym}
+use Rattle.std.proofs.Common.{◌∙◌, ap, arith}
+use Rattle.std.proofs.lemmas.List.{take_all}
 use Rattle.nx_ring.specs.declared.mappings.Mapping.{Mapping}
 use Rattle.nx_ring.specs.Objects.{is_placed}
-use Rattle.nx_ring.specs.Valid.{are_placed}
+use Rattle.nx_ring.specs.Valid.{are_placed, blocks_of}
 use Rattle.nx_ring.proofs.More.{blocks_more}
 use Rattle.nx_ring.proofs.Some.{all_pass}
 use Rattle.nx_ring.proofs.valid.blocks_of.Goals as goal
@@ -19,3 +20,6 @@ each-preserved c =
     let before = c.each.invariant in
     let more = blocks_more c.args.areas.now c.args.mappings.now c.each.m-index none c.each-test.true in
     Prim.cc
+
+pub returns-clause-found : goal.returns-clause-found
+returns-clause-found c = c.each.invariant ∙ ap (blocks_of c.args.areas.now) (take_all c.each.m-index c.args.mappings.now (Prim.omega (arith, c.each-test.false)))

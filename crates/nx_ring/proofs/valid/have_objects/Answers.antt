@@ -1,5 +1,4 @@
 use Rattle.std.proofs.Common.{◌∙◌, ap, sym, arith}
-use Rattle.std.proofs.lemmas.Grind.{common_steps}
 use Rattle.std.proofs.lemmas.List.{take_all}
 use Rattle.std.proofs.lemmas.List.Folds.{list_all_more}
 use Rattle.std.specs.List.{list_all}
@@ -8,6 +7,7 @@ use Rattle.nx_ring.specs.Objects.{has_object, is_placed}
 use Rattle.nx_ring.specs.Valid.{are_placed, have_objects}
 use Rattle.nx_ring.proofs.More.{blocks_length, blocks_part}
 use Rattle.nx_ring.proofs.Some.{all_fail, all_pass}
+use Rattle.nx_ring.proofs.Kept.{kept_on}
 use Rattle.nx_ring.proofs.valid.have_objects.Goals as goal
 
 abbrev none : Mapping
@@ -42,12 +42,8 @@ each-preserved g c =
     record {
       sound = λ image told was.
           let found = c.in_ok-has_object.ensures.found image (c.each.invariant.kept.same_bytes ∙ told) (c.each.invariant.known image told was) in
-          Prim.grind (arith, common_steps, c.each.invariant.sound image told was, found, c.if-not-branch.false, list_all_more (has_object image c.args.areas.now c.args.xid) c.args.mappings.now c.each.m-index none c.each-test.true);
+          list_all_more (has_object image c.args.areas.now c.args.xid) c.args.mappings.now c.each.m-index none c.each-test.true ∙ rw (c.each.invariant.sound image told was) (sym found ∙ c.if-not-branch.false);
       known = λ image told was. c.in_ok-has_object.ensures.known image (c.each.invariant.kept.same_bytes ∙ told) (c.each.invariant.known image told was);
-      kept = record {
-        same_bytes = c.in_ok-has_object.ensures.kept.same_bytes ∙ c.each.invariant.kept.same_bytes;
-        same_size = c.in_ok-has_object.ensures.kept.same_size ∙ c.each.invariant.kept.same_size;
-        later = Prim.omega (arith, c.in_ok-has_object.ensures.kept.later, c.each.invariant.kept.later);
-      };
+      kept = kept_on c.each.invariant.kept c.in_ok-has_object.ensures.kept;
       reads = Prim.omega (arith, c.in_ok-has_object.ensures.reads, c.each.invariant.reads, blocks_length c.args.areas.now c.args.mappings.now c.each.m-index none c.each-test.true);
     }

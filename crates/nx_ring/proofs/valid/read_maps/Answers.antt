@@ -1,7 +1,8 @@
-use Rattle.std.proofs.Common.{◌≡◌, ◌∙◌, ◌+◌, ◌-◌, true, false, ap, sym, arith}
+use Rattle.std.proofs.Common.{◌≡◌, ◌∙◌, true, false, ap, sym, arith}
 use Rattle.std.specs.List.{range_with_len, list_all}
 use Rattle.nx_ring.specs.Valid.{is_map_after, has_maps, first_mappings, mappings_of, map_blocks}
 use Rattle.nx_ring.proofs.More.{first_more, maps_more, maps_fail}
+use Rattle.nx_ring.proofs.Kept.{kept_on}
 use Rattle.nx_ring.proofs.valid.read_maps.Goals as goal
 
 pub returns-then-not-branch-clause-found : goal.returns-then-not-branch-clause-found
@@ -27,11 +28,7 @@ maps-preserved g c =
           let found = c.in_ok-add_map.ensures.found image (old.kept.same_bytes ∙ told) in
           let passes : is_map_after image areas line c.maps.j ≡ true = sym found ∙ c.if-not-branch.false in
           maps_more image areas line c.maps.j ∙ rw (old.sound image told) passes;
-      kept = record {
-        same_bytes = kept.same_bytes ∙ old.kept.same_bytes;
-        same_size = kept.same_size ∙ old.kept.same_size;
-        later = Prim.omega (arith, kept.later, old.kept.later);
-      };
+      kept = kept_on old.kept kept;
       reads = Prim.omega (arith, c.in_ok-add_map.ensures.reads, old.reads);
     }
 

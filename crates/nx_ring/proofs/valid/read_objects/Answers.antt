@@ -1,14 +1,14 @@
-use Rattle.std.proofs.Common.{◌∙◌, ap, sym, arith}
-use Rattle.std.proofs.lemmas.Grind.{common_steps}
+use Rattle.std.proofs.Common.{◌∙◌, map, length, ap, sym, arith}
 use Rattle.std.proofs.lemmas.List.{take_all}
 use Rattle.std.proofs.lemmas.List.Folds.{list_all_more}
 use Rattle.std.specs.Option.{is_some}
 use Rattle.std.specs.List.{list_all}
 use Rattle.nx_ring.specs.declared.mappings.Mapping.{Mapping}
 use Rattle.nx_ring.specs.Objects.{has_object, is_placed, place_at}
-use Rattle.nx_ring.specs.Valid.{are_placed, have_objects}
+use Rattle.nx_ring.specs.Valid.{are_placed, blocks_of, have_objects}
 use Rattle.nx_ring.proofs.More.{places_more, blocks_length, blocks_part}
-use Rattle.nx_ring.proofs.Some.{none_chosen, all_fail, all_pass}
+use Rattle.nx_ring.proofs.Some.{none_chosen, chosen_is, grown, all_fail, all_pass}
+use Rattle.nx_ring.proofs.Kept.{kept_on}
 use Rattle.nx_ring.proofs.valid.read_objects.Goals as goal
 
 abbrev none : Mapping
@@ -39,15 +39,17 @@ unfolding have_objects
 returns-clause-found g c image told =
     sym (c.each.invariant.sound image told) ∙ ap (list_all (has_object image c.args.areas.now c.args.xid)) (take_all c.each.m-index c.args.mappings.now (Prim.omega (arith, c.each-test.false)))
 
+pub returns-clause-listed : goal.returns-clause-listed
+returns-clause-listed g c image told = c.each.invariant.listed image told ∙ ap (map (place_at image c.args.areas.now)) (take_all c.each.m-index c.args.mappings.now (Prim.omega (arith, c.each-test.false)))
+
+pub returns-clause-reads : goal.returns-clause-reads
+returns-clause-reads g c = Prim.omega (arith, c.each.invariant.reads, ap (λ ms. length (blocks_of c.args.areas.now ms)) (take_all c.each.m-index c.args.mappings.now (Prim.omega (arith, c.each-test.false))))
+
 pub each-preserved : goal.each-preserved
 each-preserved g c =
     record {
-      listed = λ image told. Prim.grind (arith, common_steps, c.in_ok-push.ensures.items, c.each.invariant.listed image told, c.in_ok-object.ensures.found image (c.each.invariant.kept.same_bytes ∙ told), c.in-Some.is, places_more image c.args.areas.now c.args.mappings.now c.each.m-index none c.each-test.true);
-      sound = λ image told. Prim.grind (arith, common_steps, c.each.invariant.sound image told, c.in_ok-object.ensures.found image (c.each.invariant.kept.same_bytes ∙ told), c.in-Some.is, list_all_more (has_object image c.args.areas.now c.args.xid) c.args.mappings.now c.each.m-index none c.each-test.true);
-      kept = record {
-        same_bytes = c.in_ok-object.ensures.kept.same_bytes ∙ c.each.invariant.kept.same_bytes;
-        same_size = c.in_ok-object.ensures.kept.same_size ∙ c.each.invariant.kept.same_size;
-        later = Prim.omega (arith, c.in_ok-object.ensures.kept.later, c.each.invariant.kept.later);
-      };
+      listed = λ image told. grown _ _ _ _ _ _ c.in_ok-push.ensures.items (c.each.invariant.listed image told) (chosen_is _ _ _ _ (c.in_ok-object.ensures.found image (c.each.invariant.kept.same_bytes ∙ told)) c.in-Some.is).1 (places_more image c.args.areas.now c.args.mappings.now c.each.m-index none c.each-test.true);
+      sound = λ image told. list_all_more (has_object image c.args.areas.now c.args.xid) c.args.mappings.now c.each.m-index none c.each-test.true ∙ rw (c.each.invariant.sound image told) (chosen_is _ _ _ _ (c.in_ok-object.ensures.found image (c.each.invariant.kept.same_bytes ∙ told)) c.in-Some.is).0;
+      kept = kept_on c.each.invariant.kept c.in_ok-object.ensures.kept;
       reads = Prim.omega (arith, c.in_ok-object.ensures.reads, c.each.invariant.reads, blocks_length c.args.areas.now c.args.mappings.now c.each.m-index none c.each-test.true);
     }

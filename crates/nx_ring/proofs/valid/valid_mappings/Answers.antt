@@ -1,9 +1,10 @@
-use Rattle.std.proofs.Common.{◌≡◌, ◌∙◌, ◌+◌, ◌≤◌, ◌<◌, ◌&&◌, List, true, false, length, ap, sym, arith}
+use Rattle.std.proofs.Common.{◌≡◌, ◌∙◌, ◌≤◌, ◌<◌, ◌&&◌, List, true, false, length, ap, sym, subst, arith}
 use Rattle.std.proofs.lemmas.Grind.{common_steps}
 use Rattle.std.specs.Option.{is_some}
 use Rattle.nx_ring.specs.declared.areas.Areas.{Areas}
 use Rattle.nx_ring.specs.declared.mappings.Mapping.{Mapping}
-use Rattle.nx_ring.specs.Valid.{is_valid, has_mappings, have_objects, mappings_of, blocks_of, are_apart, are_placed}
+use Rattle.nx_ring.specs.Reading.{Fits}
+use Rattle.nx_ring.specs.Valid.{is_valid, has_mappings, have_objects, mappings_of, blocks_of, are_apart}
 use Rattle.nx_ring.proofs.Few.{few_blocks, apart_placed}
 use Rattle.nx_ring.proofs.Some.{some_at}
 use Rattle.nx_ring.proofs.valid.valid_mappings.Goals as goal
@@ -17,10 +18,10 @@ returns-in_default-clause-found g c image told was =
     let no : has_mappings image c.args.areas.now c.args.line.now ≡ false = sym (c.in_ok-mappings.ensures.found image told) ∙ ap is_some c.in_default.is in
     sym (ap (λ b. b && have_objects image c.args.areas.now c.args.line.now.xid (mappings_of image c.args.areas.now c.args.line.now)) no)
 
-pub have_objects-requires-clause-placed : goal.have_objects-requires-clause-placed
-have_objects-requires-clause-placed g c =
+pub have_objects-requires : goal.have_objects-requires
+have_objects-requires g c =
     let apart : are_apart c.args.areas.now c.in-Some.mappings.items ≡ true = some_at _ c.in-Some.is c.in_ok-mappings.ensures.apart in
-    rw c.as_slice.ensures.value (apart_placed c.args.areas.now c.in-Some.mappings.items apart)
+    record { fits = subst (Fits c.args.areas.now) (sym c.in_ok-mappings.ensures.kept.same_size) c.requires; placed = rw c.as_slice.ensures.value (apart_placed c.args.areas.now c.in-Some.mappings.items apart) }
 
 pub returns-in_err-have_objects-clause-reads : goal.returns-in_err-have_objects-clause-reads
 returns-in_err-have_objects-clause-reads g c =
@@ -61,3 +62,6 @@ returns-clause-found g c image told was =
 
 pub returns-clause-listed : goal.returns-clause-listed
 returns-clause-listed g c image told = some_at _ c.in-Some.is (c.in_ok-mappings.ensures.listed image told)
+
+pub returns-clause-known : goal.returns-clause-known
+returns-clause-known g c image told was = c.in_ok-have_objects.ensures.known image (c.in_ok-mappings.ensures.kept.same_bytes ∙ told) was
