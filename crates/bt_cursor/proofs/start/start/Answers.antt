@@ -1,11 +1,8 @@
-use Rattle.std.proofs.Common.{sym, subst, All, arith}
-use Rattle.std.proofs.lemmas.List.Elements.{All-push}
-use Rattle.bt_cursor.specs.Stack.{IsLong}
+use Rattle.bt_cursor.specs.Tree.{tree_in, root_place}
+use Rattle.bt_cursor.specs.Met.{first}
+use Rattle.bt_cursor.proofs.Nodes.{gap_fault}
 use Rattle.bt_cursor.proofs.start.start.Goals as goal
 
-pub loop-i-preserved : goal.loop-i-preserved
-loop-i-preserved g c = record {
-  long = subst (All (IsLong c.args.site.now)) (sym c.push_reserved.ensures.items) (All-push (IsLong c.args.site.now) c.loop-i.spare.items c.in_ok-blank.field-0 c.loop-i.invariant.long c.in_ok-blank.ensures.long);
-  full = omega (arith, c.push_reserved.ensures.len);
-  capacity = omega (arith, c.push_reserved.ensures.capacity);
-}
+pub returns-in-Err-clause-present : goal.returns-in-Err-clause-present
+returns-in-Err-clause-present g c image told =
+    gap_fault (tree_in g.K.TreeKey.shape c.args.site.now (g.N.Namer.named c.args.namer.now) image) c.args.root (root_place c.args.root) c.in-Err.stop first c.in-Err.ensures.of_nodes (c.in-Err.ensures.found image told)
