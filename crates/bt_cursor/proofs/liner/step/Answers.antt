@@ -18,46 +18,14 @@ pub returns-in-Err : goal.returns-in-Err
 returns-in-Err g c =
     let tree = λ (image : List ℕ). tree_in g.K.TreeKey.shape c.args.site.now (g.N.Namer.named c.args.namer.now) image in
     let e = c.in-Err.ensures in
-    record {
-      way = e.way;
-      deep = e.back;
-      within = e.within;
-      gap = e.gap;
-      reads = e.reads;
-      kept = e.kept;
-      moved = λ image told. tt;
-      entered = λ image told. tt;
-      seen = tt;
-      stands = tt;
-      key = tt;
-      fuel = tt;
-      present = λ image told root within. stops-node (tree image) root c.args.deep.now (passed_child g.K.TreeKey.shape c.args.way.now) c.args.seen.now (ahead_if (tree image) c.args.deep.now c.args.way.now) c.in-Err.stop (e.present image told root within);
-      cause = λ is. e.cause (err-as c.in-Err.stop ReadFault is);
-      no_memory = λ is. e.no_memory (err-as c.in-Err.stop NoMemory is);
-    }
+    record { way = e.way; deep = e.back; within = e.within; gap = e.gap; reads = e.reads; kept = e.kept; moved = λ image told. tt; entered = λ image told. tt; seen = tt; stands = tt; key = tt; fuel = tt; present = λ image told root within. stops-node (tree image) root c.args.deep.now (passed_child g.K.TreeKey.shape c.args.way.now) c.args.seen.now (ahead_if (tree image) c.args.deep.now c.args.way.now) c.in-Err.stop (e.present image told root within); cause = λ is. e.cause (err-as c.in-Err.stop ReadFault is); no_memory = λ is. e.no_memory (err-as c.in-Err.stop NoMemory is) }
 
 pub returns-then-fits : goal.returns-then-fits
 returns-then-fits g c =
     let look = λ (image : List ℕ). look_in g.K.TreeKey.shape c.args.site.now (g.N.Namer.named c.args.namer.now) image in
     let tree = λ (image : List ℕ). tree_in g.K.TreeKey.shape c.args.site.now (g.N.Namer.named c.args.namer.now) image in
     let e = c.in-Ok.ensures in
-    record {
-      way = c.climb.ensures.way;
-      entered = e.entered;
-      reads = e.reads;
-      kept = e.kept;
-      moved = λ image told. (none-left (tree image) c.args.way.now c.fall.new.way c.climb.new.way c.args.deep.now (e.same image told) (c.climb.ensures.same (look image)) (c.climb.ensures.end c.if-not-climb.true (look image)), sym c.fits.ensures ∙ c.if-fits.true);
-      deep = λ on. absurd (false≢true on);
-      seen = λ on. absurd (false≢true on);
-      stands = λ on. absurd (false≢true on);
-      key = λ on. absurd (false≢true on);
-      fuel = λ on. absurd (false≢true on);
-      within = λ image told root within. c.climb.ensures.within (look image) root (e.within image told root within);
-      present = λ image told root within. tt;
-      gap = λ image told. tt;
-      cause = ok-not false ReadFault;
-      no_memory = ok-not false NoMemory;
-    }
+    record { way = c.climb.ensures.way; entered = e.entered; reads = e.reads; kept = e.kept; moved = λ image told. (none-left (tree image) c.args.way.now c.fall.new.way c.climb.new.way c.args.deep.now (e.same image told) (c.climb.ensures.same (look image)) (c.climb.ensures.end c.if-not-climb.true (look image)), sym c.fits.ensures ∙ c.if-fits.true); deep = λ on. absurd (false≢true on); seen = λ on. absurd (false≢true on); stands = λ on. absurd (false≢true on); key = λ on. absurd (false≢true on); fuel = λ on. absurd (false≢true on); within = λ image told root within. c.climb.ensures.within (look image) root (e.within image told root within); present = λ image told root within. tt; gap = λ image told. tt; cause = ok-not false ReadFault; no_memory = ok-not false NoMemory }
 
 pub returns-then-not-climb : goal.returns-then-not-climb
 returns-then-not-climb g c =

@@ -16,39 +16,11 @@ returns-in-Ok g c =
     let tree = λ (image : List ℕ). tree_in g.K.TreeKey.shape c.args.site (g.N.Namer.named c.args.namer) image in
     let way = c.in-Ok.way in
     let e = c.in-Ok.ensures in
-    record {
-      site = refl;
-      root = refl;
-      tree = refl;
-      reads = e.reads;
-      of_nodes = tt;
-      cause = ok-not _ ReadFault;
-      kept = e.kept;
-      stops = λ image told. tt;
-      present = λ image told. tt;
-      exact = λ image told walkable. tt;
-      left = λ image told. way-start (tree image) c.args.root way.above.items way.last e.start.above e.start.next e.at (e.found image told);
-      depth = λ image told. ap (λ o. option_map level_of (value_of o)) (e.found image told) ∙ ap Some (sym e.depth);
-      within = λ image told. IsIn-start (tree image) c.args.root way.above.items way.last e.start.above e.at (e.found image told);
-    }
+    record { site = refl; root = refl; tree = refl; reads = e.reads; of_nodes = tt; cause = ok-not _ ReadFault; kept = e.kept; stops = λ image told. tt; present = λ image told. tt; exact = λ image told walkable. tt; left = λ image told. way-start (tree image) c.args.root way.above.items way.last e.start.above e.start.next e.at (e.found image told); depth = λ image told. ap (λ o. option_map level_of (value_of o)) (e.found image told) ∙ ap Some (sym e.depth); within = λ image told. IsIn-start (tree image) c.args.root way.above.items way.last e.start.above e.at (e.found image told) }
 
 pub returns-in-Err : goal.returns-in-Err
 returns-in-Err g c =
     let tree = λ (image : List ℕ). tree_in g.K.TreeKey.shape c.args.site (g.N.Namer.named c.args.namer) image in
     let stop = c.in-Err.stop in
     let e = c.in-Err.ensures in
-    record {
-      site = tt;
-      root = tt;
-      tree = tt;
-      left = λ image told. tt;
-      depth = λ image told. tt;
-      within = λ image told. tt;
-      stops = λ image told. stops-root (tree image) c.args.root stop (e.gap image told);
-      exact = λ image told walkable. node-world (tree image) c.args.root stop (tree-levelled g.K.TreeKey.shape c.args.site (g.N.Namer.named c.args.namer) image) walkable (e.present image told);
-      present = e.present;
-      of_nodes = e.of_nodes;
-      reads = e.reads;
-      cause = λ is. e.cause (err-as stop ReadFault is);
-      kept = e.kept;
-    }
+    record { site = tt; root = tt; tree = tt; left = λ image told. tt; depth = λ image told. tt; within = λ image told. tt; stops = λ image told. stops-root (tree image) c.args.root stop (e.gap image told); exact = λ image told walkable. node-world (tree image) c.args.root stop (tree-levelled g.K.TreeKey.shape c.args.site (g.N.Namer.named c.args.namer) image) walkable (e.present image told); present = e.present; of_nodes = e.of_nodes; reads = e.reads; cause = λ is. e.cause (err-as stop ReadFault is); kept = e.kept }

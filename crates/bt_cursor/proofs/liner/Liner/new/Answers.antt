@@ -30,18 +30,4 @@ returns-in-Err g c =
     let tree = λ (image : List ℕ). tree_in g.K.TreeKey.shape c.args.site named image in
     let stop = c.in-Err.stop in
     let e = c.in-Err.ensures in
-    record {
-      site = tt;
-      root = tt;
-      tree = tt;
-      deep = tt;
-      seen = tt;
-      passed = λ image told. tt;
-      first = λ image told. root-first (tree image) c.args.root stop e.of_nodes (e.gap image told);
-      exact = λ image told walkable. node-world (tree image) c.args.root stop (tree-levelled g.K.TreeKey.shape c.args.site named image) walkable (e.present image told);
-      present = e.present;
-      of_nodes = e.of_nodes;
-      reads = e.reads;
-      cause = λ is. e.cause (err-as stop ReadFault is);
-      kept = e.kept;
-    }
+    record { site = tt; root = tt; tree = tt; deep = tt; seen = tt; passed = λ image told. tt; first = λ image told. root-first (tree image) c.args.root stop e.of_nodes (e.gap image told); exact = λ image told walkable. node-world (tree image) c.args.root stop (tree-levelled g.K.TreeKey.shape c.args.site named image) walkable (e.present image told); present = e.present; of_nodes = e.of_nodes; reads = e.reads; cause = λ is. e.cause (err-as stop ReadFault is); kept = e.kept }

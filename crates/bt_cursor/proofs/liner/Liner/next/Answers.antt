@@ -10,22 +10,7 @@ returns-in-Ok g c =
     let self = c.args.self.now in
     let more = c.in-Ok.more in
     let e = c.in-Ok.ensures in
-    record {
-      site = refl;
-      root = refl;
-      tree = refl;
-      reads = e.reads;
-      fuel = e.fuel;
-      cause = e.cause;
-      no_memory = e.no_memory;
-      kept = e.kept;
-      present = λ image told passed has. tt;
-      first = λ image told passed has. tt;
-      exact = λ image told passed has whole. tt;
-      passed = λ image told passed has. passes-on image passed self _ more refl refl has (e.moved image told) (e.entered image told) (e.within image told self.root has.within) e.stands;
-      stands = has-item _ more e.stands e.key;
-      seen = sees-one self (record self { way = c.step.new.way; deep = c.step.new.deep; seen = c.step.new.seen; sound = c.step.ensures.way; deep_in = c.step.ensures.deep }) more e.seen;
-    }
+    record { site = refl; root = refl; tree = refl; reads = e.reads; fuel = e.fuel; cause = e.cause; no_memory = e.no_memory; kept = e.kept; present = λ image told passed has. tt; first = λ image told passed has. tt; exact = λ image told passed has whole. tt; passed = λ image told passed has. passes-on image passed self _ more refl refl has (e.moved image told) (e.entered image told) (e.within image told self.root has.within) e.stands; stands = has-item _ more e.stands e.key; seen = sees-one self (record self { way = c.step.new.way; deep = c.step.new.deep; seen = c.step.new.seen; sound = c.step.ensures.way; deep_in = c.step.ensures.deep }) more e.seen }
 
 pub returns-in-Err : goal.returns-in-Err
 returns-in-Err g c =
