@@ -41,4 +41,20 @@ returns-in-Err g c =
     let way = c.enter.new.way in
     let e = c.in-Err.ensures in
     let held = e.way.hold_last in
-    record { way = record { hold = e.way.hold; hold_last = record { accepted = held.accepted; long = held.long; node = held.node; inside = subst (λ (s : Step). last.next ≤ count_of s.block.items) (sym e.same_last) c.requires.way.hold_last.inside }; levels = e.way.levels; level_last = e.way.level_last; buffers = e.way.buffers }; passed = λ image told. tt; more = tt; level = tt; fuel = tt; depth = e.depth; reads = e.reads; same = λ image told. ap (λ (s : Step). gapped_from (tree image) s.at.oid s.block.items last.next ++ gapped_rest (tree image) way.above.items) e.same_last ∙ ap (λ ss. gapped_from (tree image) last.at.oid last.block.items last.next ++ gapped_rest (tree image) ss) e.same_above; stops = λ image told. stops-at (tree image) old.above.items last.at.oid last.block.items (level_of last.block.items - 1) last.next c.in-Err.stop c.requires.left high (e.found image told); within = λ image told root within. IsIn-moved (tree image) root way.above.items way.last last.next (e.within image told root (IsIn-moved (tree image) root old.above.items last (last.next + 1) within)); present = λ image told root within. e.present image told root (IsIn-moved (tree image) root old.above.items last (last.next + 1) within); of_nodes = e.of_nodes; cause = e.cause; no_memory = e.no_memory; kept = e.kept }
+    record {
+      way = record { hold = e.way.hold; hold_last = record { accepted = held.accepted; long = held.long; node = held.node; inside = subst (λ (s : Step). last.next ≤ count_of s.block.items) (sym e.same_last) c.requires.way.hold_last.inside }; levels = e.way.levels; level_last = e.way.level_last; buffers = e.way.buffers };
+      passed = λ image told. tt;
+      more = tt;
+      level = tt;
+      fuel = tt;
+      depth = e.depth;
+      reads = e.reads;
+      same = λ image told. ap (λ (s : Step). gapped_from (tree image) s.at.oid s.block.items last.next ++ gapped_rest (tree image) way.above.items) e.same_last ∙ ap (λ ss. gapped_from (tree image) last.at.oid last.block.items last.next ++ gapped_rest (tree image) ss) e.same_above;
+      stops = λ image told. stops-at (tree image) old.above.items last.at.oid last.block.items (level_of last.block.items - 1) last.next c.in-Err.stop c.requires.left high (e.found image told);
+      within = λ image told root within. IsIn-moved (tree image) root way.above.items way.last last.next (e.within image told root (IsIn-moved (tree image) root old.above.items last (last.next + 1) within));
+      present = λ image told root within. e.present image told root (IsIn-moved (tree image) root old.above.items last (last.next + 1) within);
+      of_nodes = e.of_nodes;
+      cause = e.cause;
+      no_memory = e.no_memory;
+      kept = e.kept;
+    }
