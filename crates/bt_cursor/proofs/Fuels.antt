@@ -1,9 +1,10 @@
 -- A walk goes on only so far.
-use Rattle.std.proofs.Common.{◌≡◌, ℕ, zero, suc, ◌+◌, ◌-◌, ◌*◌, ◌<◌, ◌≤◌, nat_lt, Bool, true, false, List, [], ◌∷◌, ◌++◌, ap, sym, ◌∙◌, subst, arith}
+use Rattle.std.proofs.Common.{◌≡◌, ℕ, zero, suc, ◌+◌, ◌-◌, ◌*◌, ◌<◌, ◌≤◌, nat_lt, Bool, true, false, List, [], ◌∷◌, ◌++◌, refl, ap, sym, ◌∙◌, subst, arith}
 use Rattle.std.proofs.lemmas.Bool.Decides.{nat_tests}
 use Rattle.bt_node.specs.Node.{level_of, count_of}
-use Rattle.bt_cursor.specs.Fuel.{weight, fuel_at, fuel_above, pending}
+use Rattle.bt_cursor.specs.Fuel.{weight, fuel_at, fuel_above, fuel_way, fuel_if, pending}
 use Rattle.bt_cursor.specs.declared.way.Step.{Step}
+use Rattle.bt_cursor.specs.declared.way.Way.{Way}
 
 pub weight-some : (level : ℕ) → 1 ≤ weight level
 weight-some zero = omega arith
@@ -44,8 +45,13 @@ fuel-up above lower_above last lower taken past =
     omega (arith, none, e, fuel_push above last)
 
 -- what is below an entry is less than the entry
-pub pending-less : (node : List ℕ) (deep : Bool) → deep ≡ nat_lt 0 (level_of node) → pending deep node < weight (level_of node)
+pending-less : (node : List ℕ) (deep : Bool) → deep ≡ nat_lt 0 (level_of node) → pending deep node < weight (level_of node)
 pending-less node true upper =
     let high : 0 < level_of node = grind (arith, nat_tests) in
     omega (arith, weight-high node high, weight-some (level_of node - 1))
 pending-less node false upper = weight-some (level_of node)
+
+-- a walk that passed an entry of a node to which it went down and up
+pub fuel-passed : (old mid way : Way) (deep now : Bool) → fuel_way mid ≤ fuel_if deep old → fuel_way way ≤ fuel_way mid → way.last.next < count_of way.last.block.items → now ≡ nat_lt 0 (level_of way.last.block.items) →
+    pending now way.last.block.items + (fuel_at way.last.block.items (way.last.next + 1) + fuel_above way.above.items) < fuel_if deep old
+fuel-passed old mid way deep now down up low upper = omega (arith, fuel-pass way.last.block.items way.last.next (way.last.next + 1) low refl, pending-less way.last.block.items now upper, down, up)

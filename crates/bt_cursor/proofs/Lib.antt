@@ -10,6 +10,7 @@ pub mod Steps
 pub mod Orders
 pub mod Gone
 pub mod Passings
+pub mod Ends
 pub mod Ranks
 pub mod Seeks
 pub mod Runs

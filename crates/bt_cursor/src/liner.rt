@@ -1,12 +1,23 @@
 // The Line of a tree, with its order and counts.
-ghost use Rattle.std.specs.Prelude.{◌≡◌, true};
-ghost use Rattle.bt_cursor.specs.Stack.{IsWay};
-ghost use Rattle.bt_cursor.specs.Ahead.{IsDeep};
+ghost use Rattle.std.specs.Prelude.{◌≡◌, ℕ, ◌+◌, ◌<◌, ◌≤◌, nat_lt, true, false, List, Some, OnOk, IfOk, IfErr, IsErrOf, IsSome, IsTrue};
+ghost use Rattle.apfs_model.specs.Counts.{Rose};
+ghost use Rattle.apfs_model.specs.Kept.{IsKept};
+ghost use Rattle.obj_base.specs.declared.stop.Stop.TheVariants.{ReadFault, NoMemory};
+ghost use Rattle.obj_base.specs.Stops.{Tells};
+ghost use Rattle.obj_base.specs.Site.{IsSiteFor};
+ghost use Rattle.bt_node.specs.Node.{level_of};
+ghost use Rattle.bt_cursor.specs.Tree.{tree_in};
+ghost use Rattle.bt_cursor.specs.Faults.{HasFeature};
+ghost use Rattle.bt_cursor.specs.Stack.{IsWay, IsIn};
+ghost use Rattle.bt_cursor.specs.Ahead.{ahead_if, passed_pair, passed_item, passed_child, IsDeep};
+ghost use Rattle.bt_cursor.specs.Fuel.{fuel_if};
+ghost use Rattle.bt_cursor.specs.Seen.{reads_for, is_out, seen_item};
+ghost use Rattle.bt_cursor.specs.Advance.{Advances, Entered, StopsFor, TellsGap, IsGapOf};
 
 use crate::fault::WalkFault;
 use crate::namer::Namer;
-use crate::node::{child, info, key_at, lend_with, level};
-use crate::seen::{Seen, fits, nothing_seen, see};
+use crate::node::{child, info, lend_with, level};
+use crate::seen::{Seen, fits, nothing_seen, see_next};
 use crate::start::start;
 use crate::step::Step;
 use crate::walk::{climb, fall};
@@ -64,22 +75,63 @@ impl<K: TreeKey> LineItem<'_, K> {
     }
 }
 
+// Moves onto the next item, by what was seen so far.
+fn step<K: TreeKey, S: BlockSource, N: Namer>(
+    src: &mut S,
+    namer: &N,
+    site: &Site,
+    way: &mut Way,
+    deep: &mut bool,
+    seen: &mut Seen,
+    key: &mut Option<K>,
+) -> Result<bool, Stop<WalkFault>>
+    requires site { IsSiteFor site.now (S.bytes_len src.old) }
+    requires way { IsWay K.shape site.now way.old.above.items way.old.last way.old.spare.items }
+    requires deep { deep.old ≡ true → IsDeep way.old }
+    ensures way { IsWay K.shape site.now way.new.above.items way.new.last way.new.spare.items }
+    ensures deep { deep.new ≡ true → IsDeep way.new }
+    ensures moved { (image : List ℕ) → S.bytes src.old ≡ Some image → IfOk result (Advances K.shape seen.old seen.new (ahead_if (tree_in K.shape site.now (N.named namer.now) image) deep.old way.old) (ahead_if (tree_in K.shape site.now (N.named namer.now) image) deep.new way.new) (passed_item K.shape way.new)) }
+    ensures entered { (image : List ℕ) → S.bytes src.old ≡ Some image → OnOk result (Entered (tree_in K.shape site.now (N.named namer.now) image) deep.old (passed_child K.shape way.old)) }
+    ensures seen { IfOk result (λ more. IsTrue more → (is_out K.shape seen.old (passed_item K.shape way.new) ≡ false) × (seen.new ≡ seen_item K.shape seen.old (passed_item K.shape way.new))) }
+    ensures stands { IfOk result (λ more. IsTrue more → (0 < way.new.last.next) × (deep.new ≡ nat_lt 0 (level_of way.new.last.block.items))) }
+    ensures key { IfOk result (λ more. IsTrue more → IsSome key.new × (K.shape.read (passed_pair K.shape way.new).key ≡ key.new)) }
+    ensures within { (image : List ℕ) → S.bytes src.old ≡ Some image → (root : ℕ) → IsIn (tree_in K.shape site.now (N.named namer.now) image) root way.old.above.items way.old.last → IsIn (tree_in K.shape site.now (N.named namer.now) image) root way.new.above.items way.new.last }
+    ensures present { (image : List ℕ) → S.bytes src.old ≡ Some image → (root : ℕ) → IsIn (tree_in K.shape site.now (N.named namer.now) image) root way.old.above.items way.old.last → IfErr result (Tells (StopsFor (tree_in K.shape site.now (N.named namer.now) image) root deep.old (passed_child K.shape way.old) seen.old (ahead_if (tree_in K.shape site.now (N.named namer.now) image) deep.old way.old)) (HasFeature (tree_in K.shape site.now (N.named namer.now) image) root)) }
+    ensures gap { (image : List ℕ) → S.bytes src.old ≡ Some image → IfErr result (TellsGap (IsGapOf (tree_in K.shape site.now (N.named namer.now) image) deep.old (passed_child K.shape way.old))) }
+    ensures reads { S.reads src.new ≤ S.reads src.old + reads_for deep.old }
+    ensures fuel { IfOk result (λ more. IsTrue more → fuel_if deep.new way.new < fuel_if deep.old way.old) }
+    ensures cause { IsErrOf result ReadFault → Rose (S.faults src.old) (S.faults src.new) }
+    ensures no_memory { IsErrOf result NoMemory → ⊥ }
+    ensures kept { IsKept S.bytes S.bytes_len S.faults src.old src.new }
+{
+    match fall::<K, S, N>(src, namer, site, way, *deep) {
+        Ok(()) => *deep = false,
+        Err(stop) => return Err(stop),
+    }
+    if !climb::<K>(site, way) {
+        if fits(*seen) {
+            return Ok(false);
+        }
+        return Err(Stop::Found(WalkFault::Counts));
+    }
+    let Some(next) = see_next::<K>(seen, &way.last, site) else {
+        return Err(Stop::Found(WalkFault::Order { item: seen.number }));
+    };
+    *key = Some(next);
+    *deep = 0 < level::<K>(&way.last, site);
+    way.last.next += 1;
+    Ok(true)
+}
+
 impl<K: TreeKey, N: Namer> Liner<K, N> {
-    ghost use Rattle.std.specs.Prelude.{◌≡◌, ℕ, ◌+◌, ◌-◌, ◌<◌, ◌≤◌, nat_lt, true, false, List, [], ◌∷◌, ◌++◌, Some, option_map, OnOk, IfOk, IfErr, IsErrOf, IsTrue, IsFalse};
-    ghost use Rattle.apfs_model.specs.Counts.{Rose};
-    ghost use Rattle.apfs_model.specs.Kept.{IsKept};
-    ghost use Rattle.obj_base.specs.declared.stop.Stop.TheVariants.{Unsupported, ReadFault, NoMemory};
-    ghost use Rattle.obj_base.specs.Stops.{Tells, IsFree};
-    ghost use Rattle.obj_base.specs.Site.{IsSiteFor};
-    ghost use Rattle.bt_cursor.specs.Tree.{tree_in};
-    ghost use Rattle.bt_cursor.specs.Line.{Item, line_of};
+    ghost use Rattle.std.specs.Prelude.{[], option_map};
+    ghost use Rattle.obj_base.specs.declared.stop.Stop.TheVariants.{Unsupported};
+    ghost use Rattle.obj_base.specs.Stops.{IsFree};
+    ghost use Rattle.bt_cursor.specs.Line.{Item};
     ghost use Rattle.bt_cursor.specs.Met.{is_walkable};
-    ghost use Rattle.bt_cursor.specs.Faults.{IsNodeFault, IsWalkFault, HasFeature};
-    ghost use Rattle.bt_cursor.specs.Stack.{IsIn};
-    ghost use Rattle.bt_cursor.specs.Ahead.{passed_child};
-    ghost use Rattle.bt_cursor.specs.Seen.{reads_for};
-    ghost use Rattle.bt_cursor.specs.Advance.{Advances, Entered, StopsFor, TellsGap, IsGapOf, IsNextGap, IsNextFault};
-    ghost use Rattle.bt_cursor.specs.Liners.{site_of, root_of, tree_of, left_of, item_of, is_deep, fuel_of, HasItem, HasItemIf, HasSeenNone, Sees, HasPassed, Passes};
+    ghost use Rattle.bt_cursor.specs.Faults.{IsNodeFault, IsWalkFault};
+    ghost use Rattle.bt_cursor.specs.Advance.{IsNextGap, IsNextFault};
+    ghost use Rattle.bt_cursor.specs.Liners.{site_of, root_of, tree_of, item_of, is_deep, fuel_of, HasItem, HasItemIf, HasSeenNone, Sees, HasPassed, Passes};
     ghost use Rattle.bt_cursor.specs.WholeTree.{IsOfNodes, IsWhole, child_id};
 
     /// Reads the root, whose id is `root`, and stands before the first item. Takes all its buffers here.
@@ -122,49 +174,6 @@ impl<K: TreeKey, N: Namer> Liner<K, N> {
         }
     }
 
-    // Moves onto the next item, by what was seen so far.
-    fn step<S: BlockSource>(&mut self, src: &mut S) -> Result<bool, Stop<WalkFault>>
-        requires site { IsSiteFor (site_of self.old) (S.bytes_len src.old) }
-        ensures site { site_of self.new ≡ site_of self.old }
-        ensures root { root_of self.new ≡ root_of self.old }
-        ensures tree { tree_of self.new ≡ tree_of self.old }
-        ensures moved { (image : List ℕ) → S.bytes src.old ≡ Some image → IfOk result (Advances K.shape self.old.seen self.new.seen (left_of self.old image) (left_of self.new image) (item_of self.new)) }
-        ensures entered { (image : List ℕ) → S.bytes src.old ≡ Some image → OnOk result (Entered (tree_of self.old image) self.old.deep (passed_child K.shape self.old.way)) }
-        ensures seen { IfOk result (Sees self.old self.new) }
-        ensures stands { IfOk result (HasItemIf self.new) }
-        ensures within { (image : List ℕ) → S.bytes src.old ≡ Some image → IsIn (tree_of self.old image) (root_of self.old) self.old.way.above.items self.old.way.last → IsIn (tree_of self.old image) (root_of self.old) self.new.way.above.items self.new.way.last }
-        ensures present { (image : List ℕ) → S.bytes src.old ≡ Some image → IsIn (tree_of self.old image) (root_of self.old) self.old.way.above.items self.old.way.last → IfErr result (Tells (StopsFor (tree_of self.old image) (root_of self.old) self.old.deep (passed_child K.shape self.old.way) self.old.seen (left_of self.old image)) (HasFeature (tree_of self.old image) (root_of self.old))) }
-        ensures gap { (image : List ℕ) → S.bytes src.old ≡ Some image → IfErr result (TellsGap (IsGapOf (tree_of self.old image) self.old.deep (passed_child K.shape self.old.way))) }
-        ensures reads { S.reads src.new ≤ S.reads src.old + reads_for (is_deep self.old) }
-        ensures fuel { IfOk result (λ more. IsTrue more → fuel_of self.new < fuel_of self.old) }
-        ensures cause { IsErrOf result ReadFault → Rose (S.faults src.old) (S.faults src.new) }
-        ensures no_memory { IsErrOf result NoMemory → ⊥ }
-        ensures kept { IsKept S.bytes S.bytes_len S.faults src.old src.new }
-    {
-        match fall::<K, S, N>(src, &self.namer, &self.site, &mut self.way, self.deep) {
-            Ok(()) => self.deep = false,
-            Err(stop) => return Err(stop),
-        }
-        if !climb::<K>(&self.site, &mut self.way) {
-            if fits(self.seen) {
-                return Ok(false);
-            }
-            return Err(Stop::Found(WalkFault::Counts));
-        }
-        let next = self.way.last.next;
-        let key = key_at::<K>(&self.way.last, &self.site, next);
-        let high = level::<K>(&self.way.last, &self.site);
-        if !see::<K>(&mut self.seen, high, &key) {
-            return Err(Stop::Found(WalkFault::Order {
-                item: self.seen.number,
-            }));
-        }
-        self.key = Some(key);
-        self.way.last.next = next + 1;
-        self.deep = 0 < high;
-        Ok(true)
-    }
-
     /// Moves onto the next item of the Line; false at the end of a whole tree. Takes no memory. After an error no
     /// further call of it means anything.
     pub fn next<S: BlockSource>(&mut self, src: &mut S) -> Result<bool, Stop<WalkFault>>
@@ -184,7 +193,15 @@ impl<K: TreeKey, N: Namer> Liner<K, N> {
         ensures no_memory { IsErrOf result NoMemory → ⊥ }
         ensures kept { IsKept S.bytes S.bytes_len S.faults src.old src.new }
     {
-        match self.step(src) {
+        match step::<K, S, N>(
+            src,
+            &self.namer,
+            &self.site,
+            &mut self.way,
+            &mut self.deep,
+            &mut self.seen,
+            &mut self.key,
+        ) {
             Ok(more) => Ok(more),
             Err(stop) => Err(stop),
         }

@@ -1,8 +1,14 @@
 // What a walk over a Line has seen.
-ghost use Rattle.std.specs.Prelude.{◌≡◌, Option, Some, None, IsTrue, IsFalse};
+ghost use Rattle.std.specs.Prelude.{◌≡◌, ◌<◌, true, false, Option, Some, None, IfSome, IsSome, IsNone, IsTrue, IsFalse};
+ghost use Rattle.bt_node.specs.Node.{level_of, count_of};
+ghost use Rattle.bt_node.specs.Entries.{pair_of};
+ghost use Rattle.bt_cursor.specs.Line.{item_at};
+ghost use Rattle.bt_cursor.specs.Stack.{IsStep};
 ghost use Rattle.bt_cursor.specs.Seen as spec;
 
-use bt_node::{Rank, RootInfo, TreeKey};
+use crate::node::{key_at, level};
+use crate::way::Step;
+use bt_node::{Rank, RootInfo, Site, TreeKey};
 
 /// How many are still to come, and whether more came than were to come.
 #[derive(Clone, Copy, PartialEq, Eq)]
@@ -88,9 +94,9 @@ fn more(seen: &mut Seen, level: u16, rank: Rank)
     }
 }
 
-/// Sees an item of a level, by its key; false where it is out of order, and then nothing changes. In place, since a walk does
-/// this for each item.
-pub(crate) fn see<K: TreeKey>(seen: &mut Seen, level: u16, key: &K) -> bool
+// Sees an item of a level, by its key; false where it is out of order, and then nothing changes. In place, since a walk does
+// this for each item.
+fn see<K: TreeKey>(seen: &mut Seen, level: u16, key: &K) -> bool
     ensures seen { IsTrue result → spec.seen_key K.shape seen.old level key.now ≡ Some seen.new }
     ensures out { IsFalse result → spec.seen_key K.shape seen.old level key.now ≡ None }
     ensures same { IsFalse result → seen.new ≡ seen.old }
@@ -104,6 +110,22 @@ pub(crate) fn see<K: TreeKey>(seen: &mut Seen, level: u16, key: &K) -> bool
     }
     more(seen, level, rank);
     true
+}
+
+/// Sees the next entry of a node, and gives its key; None where it is out of order, and then nothing changes.
+pub(crate) fn see_next<K: TreeKey>(seen: &mut Seen, step: &Step, site: &Site) -> Option<K>
+    requires step { IsStep K.shape site.now step.now }
+    requires left { step.now.next < count_of step.now.block.items }
+    ensures key { IfSome result (λ key. K.shape.read (pair_of K.shape step.now.block.items step.now.next).key ≡ Some key) }
+    ensures seen { IsSome result → (spec.is_out K.shape seen.old (item_at step.now.at.oid step.now.next (level_of step.now.block.items) (pair_of K.shape step.now.block.items step.now.next)) ≡ false) × (seen.new ≡ spec.seen_item K.shape seen.old (item_at step.now.at.oid step.now.next (level_of step.now.block.items) (pair_of K.shape step.now.block.items step.now.next))) }
+    ensures out { IsNone result → spec.is_out K.shape seen.old (item_at step.now.at.oid step.now.next (level_of step.now.block.items) (pair_of K.shape step.now.block.items step.now.next)) ≡ true }
+    ensures same { IsNone result → seen.new ≡ seen.old }
+{
+    let key = key_at::<K>(step, site, step.next);
+    if !see::<K>(seen, level::<K>(step, site), &key) {
+        return None;
+    }
+    Some(key)
 }
 
 /// No key and no node is still to come, and none came that was not to come.

@@ -1,9 +1,11 @@
-use Rattle.std.proofs.Common.{rules, ◌≡◌, ◌∙◌, ℕ, true, false, ap, sym, subst, arith}
+use Rattle.std.proofs.Common.{rules, ◌≡◌, ◌∙◌, ℕ, false, ap, subst, arith}
 use Rattle.obj_base.specs.Stops.{Tells}
 use Rattle.bt_cursor.specs.Tree.{Tree, tree_in}
 use Rattle.bt_cursor.specs.Faults.{HasFeature}
 use Rattle.bt_cursor.specs.Liners.{tree_of, root_of}
-use Rattle.bt_cursor.specs.Gathered.{IsGatherFault, IsInOrder, HasTaken, HasTakenAll, Takes}
+use Rattle.bt_cursor.specs.Gathered.{IsGatherFault, HasTakenAll, Takes}
+use Rattle.obj_base.specs.declared.stop.Stop.TheVariants.{ReadFault}
+use Rattle.bt_cursor.proofs.Ends.{ok-not}
 use Rattle.bt_cursor.proofs.Places.{tree-levelled}
 use Rattle.bt_cursor.proofs.Gathers.{start_tells, gather-free, taken-told, all-told, all-gathered}
 use Rattle.bt_cursor.proofs.gathering.gather.Goals as goal
@@ -44,16 +46,6 @@ all g c =
     (subst (λ b. Takes (bytes c.walk.src) (g.P.Keeper.holds c.take_next.new.keeper) refuses c.walk.number (reads c.args.src.now) (reads c.take_next.new.src) c.walk.liner c.take_next.new.liner b) end
     (c.in-Ok-take_next.ensures.taken (reads c.args.src.now) taken))
 
-pub returns-then-not-more-clause-clear : goal.returns-then-not-more-clause-clear
-returns-then-not-more-clause-clear g c image told =
-    all-gathered (g.S.BlockSource.bytes c.args.src.now) (tree_in g.K.TreeKey.shape c.args.site.now (g.N.Namer.named c.args.namer)) g.K.TreeKey.shape c.args.root (g.P.Keeper.holds c.take_next.new.keeper) g.P.Keeper.refuses (g.S.BlockSource.reads c.args.src.now) (g.S.BlockSource.reads c.take_next.new.src) (all g c) image told
-
-pub returns-then-not-more-clause-ordered : goal.returns-then-not-more-clause-ordered
-returns-then-not-more-clause-ordered g c = let done = all g c in record { items = done.passed; held = done.held; ordered = done.ordered }
-
-pub returns-then-not-more-clause-reads : goal.returns-then-not-more-clause-reads
-returns-then-not-more-clause-reads g c image told = ((all g c).walked image told).few
-
 pub returns-in-Err-take_next-clause-clear : goal.returns-in-Err-take_next-clause-clear
 returns-in-Err-take_next-clause-clear g c image told = tt
 
@@ -63,14 +55,21 @@ returns-in-Err-take_next-clause-ordered g c = tt
 pub returns-in-Err-take_next-clause-reads : goal.returns-in-Err-take_next-clause-reads
 returns-in-Err-take_next-clause-reads g c image told = tt
 
-pub returns-then-not-more-clause-present : goal.returns-then-not-more-clause-present
-returns-then-not-more-clause-present g c image told = tt
-
-pub returns-then-not-more-clause-refused : goal.returns-then-not-more-clause-refused
-returns-then-not-more-clause-refused g c = tt
-
-pub returns-then-not-more-clause-exact : goal.returns-then-not-more-clause-exact
-returns-then-not-more-clause-exact g c image told whole none = tt
-
 pub returns-in-Err-take_next-clause-refused : goal.returns-in-Err-take_next-clause-refused
 returns-in-Err-take_next-clause-refused g c = c.in-Err-take_next.ensures.refused
+
+pub returns-then-not-more : goal.returns-then-not-more
+returns-then-not-more g c =
+    let done = all g c in
+    let kept = c.in-Ok-take_next.ensures.kept in
+    let held = c.walk.invariant.kept in
+    record {
+      clear = λ image told. all-gathered (g.S.BlockSource.bytes c.args.src.now) (tree_in g.K.TreeKey.shape c.args.site.now (g.N.Namer.named c.args.namer)) g.K.TreeKey.shape c.args.root (g.P.Keeper.holds c.take_next.new.keeper) g.P.Keeper.refuses (g.S.BlockSource.reads c.args.src.now) (g.S.BlockSource.reads c.take_next.new.src) done image told;
+      ordered = record { items = done.passed; held = done.held; ordered = done.ordered };
+      present = λ image told. tt;
+      refused = tt;
+      exact = λ image told whole none. tt;
+      reads = λ image told. (done.walked image told).few;
+      cause = ok-not _ ReadFault;
+      kept = record { same_bytes = kept.same_bytes ∙ held.same_bytes; same_size = kept.same_size ∙ held.same_size; later = omega (arith, kept.later, held.later) };
+    }

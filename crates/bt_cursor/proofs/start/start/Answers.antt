@@ -1,11 +1,14 @@
-use Rattle.std.proofs.Common.{sym, subst, All, arith}
-use Rattle.std.proofs.lemmas.List.Elements.{All-push}
-use Rattle.bt_cursor.specs.Stack.{IsLong}
+use Rattle.std.proofs.Common.{ℕ, List}
+use Rattle.obj_base.specs.declared.stop.Stop.TheVariants.{ReadFault}
+use Rattle.bt_cursor.specs.Tree.{tree_in, root_place}
+use Rattle.bt_cursor.specs.Met.{first}
+use Rattle.bt_cursor.proofs.Ends.{err-as}
+use Rattle.bt_cursor.proofs.Nodes.{gap_fault}
 use Rattle.bt_cursor.proofs.start.start.Goals as goal
 
-pub loop-i-preserved : goal.loop-i-preserved
-loop-i-preserved g c = record {
-  long = subst (All (IsLong c.args.site.now)) (sym c.push_reserved.ensures.items) (All-push (IsLong c.args.site.now) c.loop-i.spare.items c.in_ok-blank.field-0 c.loop-i.invariant.long c.in_ok-blank.ensures.long);
-  full = omega (arith, c.push_reserved.ensures.len);
-  capacity = omega (arith, c.push_reserved.ensures.capacity);
-}
+pub returns-in-Err : goal.returns-in-Err
+returns-in-Err g c =
+    let tree = λ (image : List ℕ). tree_in g.K.TreeKey.shape c.args.site.now (g.N.Namer.named c.args.namer.now) image in
+    let stop = c.in-Err.stop in
+    let e = c.in-Err.ensures in
+    record { way = tt; start = tt; depth = tt; found = λ image told. tt; at = tt; present = λ image told. gap_fault (tree image) c.args.root (root_place c.args.root) stop first e.of_nodes (e.found image told); gap = e.found; of_nodes = e.of_nodes; reads = e.reads; cause = λ is. e.cause (err-as stop ReadFault is); kept = e.kept }

@@ -1,4 +1,7 @@
-use Rattle.std.proofs.Common.{◌≡◌, ℕ, ◌+◌, ◌-◌, ◌<◌, List, refl, ap, sym, ◌∙◌, subst, arith, rules}
+use Rattle.std.proofs.Common.{◌≡◌, ℕ, ◌+◌, ◌-◌, ◌<◌, List, true, false, refl, ap, sym, ◌∙◌, subst, arith, rules}
+use Rattle.std.proofs.lemmas.Bool.{false≢true}
+use Rattle.obj_base.specs.declared.stop.Stop.TheVariants.{ReadFault, NoMemory}
+use Rattle.bt_cursor.proofs.Ends.{ok-not}
 use Rattle.bt_node.specs.Node.{level_of}
 use Rattle.bt_node.specs.Entries.{pair_of}
 use Rattle.bt_cursor.specs.Tree.{tree_in, look_in}
@@ -46,33 +49,53 @@ descend-preserved g c =
       kept = search rules;
     }
 
-pub returns-clause-moved : goal.returns-clause-moved
-returns-clause-moved g c image told =
-    let tree = tree_in g.K.TreeKey.shape c.args.site.now (g.N.Namer.named c.args.namer.now) image in
-    let last = c.descend.way.last in
+pub returns : goal.returns
+returns g c =
+    let tree = λ (image : List ℕ). tree_in g.K.TreeKey.shape c.args.site.now (g.N.Namer.named c.args.namer.now) image in
+    let way = c.descend.way in
+    let last = way.last in
+    let inv = c.descend.invariant in
     let leaf : level_of last.block.items ≡ 0 = omega arith in
-    sym (c.descend.invariant.same image told) ∙ flat-pass tree c.descend.way.above.items last.at.oid last.block.items last.next (last.next + 1 - 1) c.descend.invariant.left leaf (omega arith)
+    let held = inv.way.hold_last in
+    record {
+      way = record { hold = inv.way.hold; hold_last = record { accepted = held.accepted; long = held.long; node = held.node; inside = omega (arith, inv.left) }; levels = inv.way.levels; level_last = inv.way.level_last; buffers = inv.way.buffers };
+      moved = λ image told. sym (inv.same image told) ∙ flat-pass (tree image) way.above.items last.at.oid last.block.items last.next (last.next + 1 - 1) inv.left leaf (omega arith);
+      same = λ image told. tt;
+      stops = λ image told. tt;
+      depth = inv.depth;
+      unread = λ image told. omega (arith, places-pass (tree image) way.above.items last.at.oid last.block.items last.next inv.left leaf, inv.reads image told);
+      reads = omega (arith, inv.few);
+      stands = λ on. record { leaf = leaf; some = omega arith };
+      within = λ image told root within. IsIn-moved (tree image) root way.above.items last (last.next + 1) (inv.within image told root within);
+      present = λ image told root within. tt;
+      of_nodes = tt;
+      fuel = λ on. omega (arith, fuel-pass last.block.items last.next (last.next + 1) inv.left refl, weight-some (level_of last.block.items), inv.fuel);
+      cause = ok-not true ReadFault;
+      no_memory = ok-not true NoMemory;
+      kept = inv.kept;
+    }
 
-pub returns-clause-unread : goal.returns-clause-unread
-returns-clause-unread g c image told =
-    let tree = tree_in g.K.TreeKey.shape c.args.site.now (g.N.Namer.named c.args.namer.now) image in
-    let last = c.descend.way.last in
-    let leaf : level_of last.block.items ≡ 0 = omega arith in
-    omega (arith, places-pass tree c.descend.way.above.items last.at.oid last.block.items last.next c.descend.invariant.left leaf, c.descend.invariant.reads image told)
-
-pub returns-clause-within : goal.returns-clause-within
-returns-clause-within g c image told root within =
-    IsIn-moved (tree_in g.K.TreeKey.shape c.args.site.now (g.N.Namer.named c.args.namer.now) image) root c.descend.way.above.items c.descend.way.last (c.descend.way.last.next + 1) (c.descend.invariant.within image told root within)
-
-pub returns-clause-fuel : goal.returns-clause-fuel
-returns-clause-fuel g c moved =
-    let last = c.descend.way.last in
-    omega (arith, fuel-pass last.block.items last.next (last.next + 1) c.descend.invariant.left refl, weight-some (level_of last.block.items), c.descend.invariant.fuel)
-
-pub returns-then-not-climb-clause-unread : goal.returns-then-not-climb-clause-unread
-returns-then-not-climb-clause-unread g c image told =
-    let look = look_in g.K.TreeKey.shape c.args.site.now (g.N.Namer.named c.args.namer.now) image in
-    omega (arith, places-same (tree_in g.K.TreeKey.shape c.args.site.now (g.N.Namer.named c.args.namer.now) image) c.args.way.now c.climb.new.way (c.climb.ensures.same_gapped look))
+pub returns-then-not-climb : goal.returns-then-not-climb
+returns-then-not-climb g c =
+    let look = λ (image : List ℕ). look_in g.K.TreeKey.shape c.args.site.now (g.N.Namer.named c.args.namer.now) image in
+    let e = c.climb.ensures in
+    record {
+      way = e.way;
+      moved = λ image told. sym (ap all_flat (e.same_gapped (look image))) ∙ ap all_flat (e.end_gapped c.if-not-climb.true (look image));
+      same = λ image told. tt;
+      stops = λ image told. tt;
+      depth = e.depth;
+      unread = λ image told. omega (arith, places-same (tree_in g.K.TreeKey.shape c.args.site.now (g.N.Namer.named c.args.namer.now) image) c.args.way.now c.climb.new.way (e.same_gapped (look image)));
+      reads = omega arith;
+      stands = λ on. absurd (false≢true on);
+      within = λ image told root within. e.within (look image) root within;
+      present = λ image told root within. tt;
+      of_nodes = tt;
+      fuel = λ on. absurd (false≢true on);
+      cause = ok-not false ReadFault;
+      no_memory = ok-not false NoMemory;
+      kept = record { same_bytes = refl; same_size = refl; later = omega arith };
+    }
 
 pub returns-in_err-down-clause-stops : goal.returns-in_err-down-clause-stops
 returns-in_err-down-clause-stops g c image told =

@@ -1,7 +1,9 @@
-use Rattle.std.proofs.Common.{ap, sym, ◌∙◌}
+use Rattle.std.proofs.Common.{ℕ, List, ap, sym, ◌∙◌}
 use Rattle.bt_node.specs.Node.{key_count_of}
 use Rattle.bt_cursor.specs.Tree.{tree_in}
 use Rattle.bt_cursor.specs.Seen.{seen_start}
+use Rattle.obj_base.specs.declared.stop.Stop.TheVariants.{ReadFault}
+use Rattle.bt_cursor.proofs.Ends.{err-as}
 use Rattle.bt_cursor.proofs.Flats.{line-start}
 use Rattle.bt_cursor.proofs.Gone.{gone-start}
 use Rattle.bt_cursor.proofs.Passings.{root-first}
@@ -22,11 +24,10 @@ returns-in-Ok-clause-passed g c image told =
           (c.nothing_seen-seen.ensures ∙ (ap (λ n. seen_start n c.info.result.node_count) c.info.ensures.keys ∙ ap (seen_start (key_count_of node)) c.info.ensures.nodes));
     }
 
-pub returns-in-Err-clause-exact : goal.returns-in-Err-clause-exact
-returns-in-Err-clause-exact g c image told walkable =
+pub returns-in-Err : goal.returns-in-Err
+returns-in-Err g c =
     let named = g.N.Namer.named c.args.namer in
-    node-world (tree_in g.K.TreeKey.shape c.args.site named image) c.args.root c.in-Err.stop (tree-levelled g.K.TreeKey.shape c.args.site named image) walkable (c.in-Err.ensures.present image told)
-
-pub returns-in-Err-clause-first : goal.returns-in-Err-clause-first
-returns-in-Err-clause-first g c image told =
-    root-first (tree_in g.K.TreeKey.shape c.args.site (g.N.Namer.named c.args.namer) image) c.args.root c.in-Err.stop c.in-Err.ensures.of_nodes (c.in-Err.ensures.gap image told)
+    let tree = λ (image : List ℕ). tree_in g.K.TreeKey.shape c.args.site named image in
+    let stop = c.in-Err.stop in
+    let e = c.in-Err.ensures in
+    record { site = tt; root = tt; tree = tt; deep = tt; seen = tt; passed = λ image told. tt; first = λ image told. root-first (tree image) c.args.root stop e.of_nodes (e.gap image told); exact = λ image told walkable. node-world (tree image) c.args.root stop (tree-levelled g.K.TreeKey.shape c.args.site named image) walkable (e.present image told); present = e.present; of_nodes = e.of_nodes; reads = e.reads; cause = λ is. e.cause (err-as stop ReadFault is); kept = e.kept }

@@ -1,25 +1,39 @@
+use Rattle.std.proofs.Common.{ℕ, List, refl}
 use Rattle.bt_cursor.specs.Ahead.{passed_child}
-use Rattle.bt_cursor.specs.Liners.{root_of, tree_of, left_of}
-use Rattle.bt_cursor.proofs.Passings.{passes-on, stops-for, stops-first}
+use Rattle.bt_cursor.specs.Liners.{tree_of, left_of}
+use Rattle.bt_cursor.proofs.Passings.{passes-on, has-item, sees-one, stops-for, stops-first}
 use Rattle.bt_cursor.proofs.Places.{tree-levelled, whole-world}
 use Rattle.bt_cursor.proofs.liner.Liner.next.Goals as goal
 
-pub returns-in-Ok-clause-passed : goal.returns-in-Ok-clause-passed
-returns-in-Ok-clause-passed g c image told passed has =
-    passes-on image passed c.args.self.now c.step.new.self c.in-Ok.more c.in-Ok.ensures.tree c.in-Ok.ensures.root has (c.in-Ok.ensures.moved image told) (c.in-Ok.ensures.entered image told) (c.in-Ok.ensures.within image told has.within) c.in-Ok.ensures.stands
-
-pub returns-in-Err-clause-present : goal.returns-in-Err-clause-present
-returns-in-Err-clause-present g c image told passed has =
+pub returns-in-Ok : goal.returns-in-Ok
+returns-in-Ok g c =
     let self = c.args.self.now in
-    stops-for (tree_of self image) (root_of self) passed (left_of self image) self.seen self.deep (passed_child g.K.TreeKey.shape self.way) c.in-Err.stop has.gone (c.in-Err.ensures.present image told has.within)
+    let more = c.in-Ok.more in
+    let e = c.in-Ok.ensures in
+    record { site = refl; root = refl; tree = refl; reads = e.reads; fuel = e.fuel; cause = e.cause; no_memory = e.no_memory; kept = e.kept; present = λ image told passed has. tt; first = λ image told passed has. tt; exact = λ image told passed has whole. tt; passed = λ image told passed has. passes-on image passed self _ more refl refl has (e.moved image told) (e.entered image told) (e.within image told self.root has.within) e.stands; stands = has-item _ more e.stands e.key; seen = sees-one self (record self { way = c.step.new.way; deep = c.step.new.deep; seen = c.step.new.seen; sound = c.step.ensures.way; deep_in = c.step.ensures.deep }) more e.seen }
 
-pub returns-in-Err-clause-exact : goal.returns-in-Err-clause-exact
-returns-in-Err-clause-exact g c image told passed has whole =
+pub returns-in-Err : goal.returns-in-Err
+returns-in-Err g c =
     let self = c.args.self.now in
-    whole-world (tree_of self image) (root_of self) c.in-Err.stop (tree-levelled g.K.TreeKey.shape self.site (g.N.Namer.named self.namer) image) whole
-    (stops-for (tree_of self image) (root_of self) passed (left_of self image) self.seen self.deep (passed_child g.K.TreeKey.shape self.way) c.in-Err.stop has.gone (c.in-Err.ensures.present image told has.within))
-
-pub returns-in-Err-clause-first : goal.returns-in-Err-clause-first
-returns-in-Err-clause-first g c image told passed has =
-    let self = c.args.self.now in
-    stops-first (tree_of self image) (root_of self) passed (left_of self image) self.seen self.deep (passed_child g.K.TreeKey.shape self.way) c.in-Err.stop has.gone (c.in-Err.ensures.gap image told) (c.in-Err.ensures.present image told has.within)
+    let tree = λ (image : List ℕ). tree_of self image in
+    let left = λ (image : List ℕ). left_of self image in
+    let child = passed_child g.K.TreeKey.shape self.way in
+    let stop = c.in-Err.stop in
+    let e = c.in-Err.ensures in
+    record {
+      site = refl;
+      root = refl;
+      tree = refl;
+      passed = λ image told passed has. tt;
+      seen = tt;
+      stands = tt;
+      fuel = tt;
+      present = λ image told passed has. stops-for (tree image) self.root passed (left image) self.seen self.deep child stop has.gone (e.present image told self.root has.within);
+      first = λ image told passed has. stops-first (tree image) self.root passed (left image) self.seen self.deep child stop has.gone (e.gap image told) (e.present image told self.root has.within);
+      exact = λ image told passed has whole. whole-world (tree image) self.root stop (tree-levelled g.K.TreeKey.shape self.site (g.N.Namer.named self.namer) image) whole
+          (stops-for (tree image) self.root passed (left image) self.seen self.deep child stop has.gone (e.present image told self.root has.within));
+      reads = e.reads;
+      cause = e.cause;
+      no_memory = e.no_memory;
+      kept = e.kept;
+    }
