@@ -4,7 +4,7 @@ ghost use Rattle.apfs_model.specs.Bytes as number;
 ghost use Rattle.img_plan.specs.Records.{IsEntryFront, IsEntryKey, IsEntryValue, IsHashedKey, IsSiblingField};
 
 use super::fields::{ONE_FIELD, put_field_at};
-use super::keys::{Item, key_named, put_start};
+use super::keys::{Item, key_named, put_start, zeros};
 use apfs_layout::key::{ENTRY, HASH_UNIT, HASHED_NAME, LEN_AND_HASH};
 use apfs_layout::record::{
     ENTRY_FILE_ID, ENTRY_FLAGS, ENTRY_LEN, FIELD_SIBLING, FIELD_SIBLING_LEN,
@@ -14,7 +14,7 @@ use img_edit::{put_bytes, put_u16, put_u32, put_u64};
 use std::alloc::{AllocError, Global};
 
 /// What an entry says beside its name.
-#[derive(Clone, Copy, PartialEq, Eq)]
+#[derive(Clone, Copy)]
 pub struct EntryPlan {
     /// The directory that has the entry.
     pub directory: u64,
@@ -45,7 +45,7 @@ fn hashed_key(alloc: Global, directory: u64, name: &[u8], hash: u32) -> Result<V
     ensures len { IfOk result (λ key. vec_len key ≡ 13 + length name.now) }
     ensures key { IfOk result (λ key. IsHashedKey directory hash name.now key.items) }
 {
-    let mut key = vec![in alloc; 0u8; HASHED_NAME + name.len() + 1]?;
+    let mut key = zeros(alloc, HASHED_NAME + name.len() + 1)?;
     put_hashed(&mut key, directory, name, hash);
     Ok(key)
 }
@@ -81,7 +81,7 @@ fn entry_value(alloc: Global, plan: &EntryPlan, more: usize) -> Result<Vec<u8>, 
     ensures len { IfOk result (λ value. vec_len value ≡ 18 + more) }
     ensures front { IfOk result (λ value. IsEntryFront plan.now.file plan.now.kind value.items) }
 {
-    let mut value = vec![in alloc; 0u8; ENTRY_LEN + more]?;
+    let mut value = zeros(alloc, ENTRY_LEN + more)?;
     put_entry(&mut value, plan.file, plan.kind);
     Ok(value)
 }

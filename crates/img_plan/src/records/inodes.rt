@@ -3,7 +3,7 @@ ghost use Rattle.std.specs.Prelude.{◌≡◌, ◌≤◌, ◌+◌, IfOk, IsNone,
 ghost use Rattle.img_plan.specs.Records.{IsInodeFront, IsInodeValue, IsShortKey, IsStreamBytes, IsStreamField};
 
 use super::fields::{ONE_FIELD, put_field_at};
-use super::keys::{Item, key};
+use super::keys::{Item, key, zeros};
 use apfs_layout::key::{INODE, RECORD_LEN};
 use apfs_layout::record::{
     FIELD_STREAM, INODE_BSD_FLAGS, INODE_FLAGS, INODE_LEN, INODE_LINKS, INODE_MODE, INODE_PARENT,
@@ -22,7 +22,7 @@ pub const FILE_MODE: u16 = 0x81a4;
 pub const LINK_MODE: u16 = 0xa1ed;
 
 /// What an inode says.
-#[derive(Clone, Copy, PartialEq, Eq)]
+#[derive(Clone, Copy)]
 pub struct InodePlan {
     pub id: u64,
     pub parent: u64,
@@ -118,7 +118,7 @@ fn inode_value(alloc: Global, plan: &InodePlan, more: usize) -> Result<Vec<u8>, 
     ensures len { IfOk result (λ value. vec_len value ≡ 92 + more) }
     ensures front { IfOk result (λ value. IsInodeFront plan.now value.items) }
 {
-    let mut value = vec![in alloc; 0u8; INODE_LEN + more]?;
+    let mut value = zeros(alloc, INODE_LEN + more)?;
     put_inode(&mut value, plan);
     Ok(value)
 }

@@ -6,4 +6,4 @@ use Rattle.img_plan.proofs.records.entries.entry_value.Goals as goal
 pub put_entry-requires-clause-added : goal.put_entry-requires-clause-added
 unfolding u64_at
 put_entry-requires-clause-added c =
-    ap (λ l. number_at 8 l 8) (c.deref_mut.ensures.value ∙ c.in_ok-value.ensures.items_if_clones_equal (λ y same. same)) ∙ number_in_zeros 8 (18 + c.args.more) 8
+    ap (λ l. number_at 8 l 8) (c.deref_mut.ensures.value ∙ c.in_ok-value.ensures.zeros) ∙ number_in_zeros 8 (18 + c.args.more) 8

@@ -4,4 +4,4 @@ use Rattle.img_plan.proofs.records.inodes.inode_value.Goals as goal
 
 pub put_inode-requires-clause-zeros : goal.put_inode-requires-clause-zeros
 put_inode-requires-clause-zeros c =
-    ap (λ l. take 92 l) (c.deref_mut.ensures.value ∙ c.in_ok-value.ensures.items_if_clones_equal (λ y same. same)) ∙ take-replicate 92 (92 + c.args.more) 0 (omega arith)
+    ap (λ l. take 92 l) (c.deref_mut.ensures.value ∙ c.in_ok-value.ensures.zeros) ∙ take-replicate 92 (92 + c.args.more) 0 (omega arith)

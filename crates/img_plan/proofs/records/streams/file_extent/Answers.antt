@@ -4,4 +4,4 @@ use Rattle.img_plan.proofs.records.streams.file_extent.Goals as goal
 
 pub put_extent-requires-clause-key : goal.put_extent-requires-clause-key
 unfolding u64_at
-put_extent-requires-clause-key c = ap (λ l. number_at 8 l 16) (c.deref_mut.ensures.value ∙ c.in_ok-value.ensures.items_if_clones_equal (λ y same. same))
+put_extent-requires-clause-key c = ap (λ l. number_at 8 l 16) (c.deref_mut.ensures.value ∙ c.in_ok-value.ensures.zeros)
