@@ -16,7 +16,7 @@ use crate::checked::checked;
 use crate::plan::{Plan, VolPlan};
 use crate::which::Sample;
 use apfs_model::NoMemory;
-use common::{ROOT_OID, SMALL, container};
+use common::container;
 use std::alloc::{AllocError, Global};
 use streams::{HELLO, HOLE, SHARED, volume_with};
 
@@ -33,9 +33,9 @@ fn two_volumes(alloc: Global) -> Result<Plan, AllocError>
 fn volume(alloc: Global, which: Sample) -> Result<VolPlan, AllocError> {
     match which {
         Sample::S | Sample::J | Sample::T => small::small_volume(alloc),
-        Sample::H => volume_with(alloc, &SMALL, ROOT_OID, &HELLO),
-        Sample::P => volume_with(alloc, &SMALL, ROOT_OID, &HOLE),
-        Sample::C => volume_with(alloc, &SMALL, ROOT_OID, &SHARED),
+        Sample::H => volume_with(alloc, &HELLO),
+        Sample::P => volume_with(alloc, &HOLE),
+        Sample::C => volume_with(alloc, &SHARED),
         Sample::V => snapshots::volume_with(alloc, snapshots::TWO),
         Sample::V2 => snapshots::volume_with(alloc, snapshots::EIGHT),
         Sample::L => links::links(alloc),

@@ -1,5 +1,5 @@
 // The keys of records (File-System Objects, j_key_t), and what an item takes in a node.
-ghost use Rattle.std.specs.Prelude.{◌≡◌, ◌≤◌, ◌<◌, ◌+◌, ◌-◌, ◌%◌, ◌^◌, min, IfOk, drop, length, replicate, vec_len};
+ghost use Rattle.std.specs.Prelude.{◌≡◌, ◌≤◌, ◌<◌, ◌+◌, ◌-◌, ◌%◌, ◌^◌, min, IfOk, Ok, drop, length, replicate, vec_len};
 ghost use Rattle.apfs_model.specs.Bytes as number;
 ghost use Rattle.img_plan.specs.Nodes.{bytes_in_node};
 ghost use Rattle.img_plan.specs.Records.{IsLongKey, IsNamedKey, IsNumberValue, IsPairKey, id_and_kind, id_of, kind_of, rank_of, sub_of};
@@ -23,6 +23,17 @@ pub fn node_bytes(item: &Item) -> usize
         .len()
         .saturating_add(item.1.len())
         .saturating_add(VARIABLE_ENTRY_LEN)
+}
+
+// An item of a key and a value that were made.
+pub(super) fn both(
+    key: Result<Vec<u8>, AllocError>,
+    value: Result<Vec<u8>, AllocError>,
+) -> Result<Item, AllocError>
+    ensures key { IfOk result (λ item. key ≡ Ok item.0) }
+    ensures value { IfOk result (λ item. value ≡ Ok item.1) }
+{
+    Ok((key?, value?))
 }
 
 // So many zeros.

@@ -3,7 +3,7 @@ ghost use Rattle.std.specs.Prelude.{◌≡◌, IfOk, length, replicate};
 ghost use Rattle.apfs_model.specs.Bytes as number;
 ghost use Rattle.img_plan.specs.Records.{IsMapValue, IsNumberKey, IsNumberValue, IsPairKey};
 
-use super::keys::{Item, number, pair, zeros};
+use super::keys::{Item, both, number, pair, zeros};
 use apfs_layout::value;
 use img_edit::{put_u32, put_u64};
 use std::alloc::{AllocError, Global};
@@ -40,7 +40,7 @@ pub fn map_snapshot(alloc: Global, xid: u64) -> Result<Item, AllocError>
     ensures key { IfOk result (λ item. IsNumberKey xid item.0.items) }
     ensures value { IfOk result (λ item. item.1.items ≡ replicate 16 0) }
 {
-    Ok((number(alloc, xid)?, zeros(alloc, value::MAP_SNAPSHOT_LEN)?))
+    both(number(alloc, xid), zeros(alloc, value::MAP_SNAPSHOT_LEN))
 }
 
 /// The item by which a node names its child.
@@ -48,5 +48,5 @@ pub fn child(alloc: Global, first_key: &[u8], oid: u64) -> Result<Item, AllocErr
     ensures key { IfOk result (λ item. item.0.items ≡ first_key.now) }
     ensures value { IfOk result (λ item. IsNumberValue oid item.1.items) }
 {
-    Ok((first_key.to_vec(alloc)?, number(alloc, oid)?))
+    both(first_key.to_vec(alloc), number(alloc, oid))
 }

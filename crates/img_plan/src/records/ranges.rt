@@ -4,7 +4,7 @@ ghost use Rattle.std.specs.Prelude.{◌≡◌, IfOk, length};
 ghost use Rattle.apfs_model.specs.Bytes as number;
 ghost use Rattle.img_plan.specs.Records.{IsNumberValue, IsPairKey, IsRangeValue, IsShortKey};
 
-use super::keys::{Item, key, number, pair, zeros};
+use super::keys::{Item, both, key, number, pair, zeros};
 use crate::plan::{NewRange, QueueEntry};
 use apfs_layout::key::{EXTENT, KIND_UNIT, RECORD_LEN};
 use apfs_layout::value;
@@ -38,8 +38,8 @@ pub fn queue_record(alloc: Global, entry: &QueueEntry) -> Result<Item, AllocErro
     ensures key { IfOk result (λ item. IsPairKey entry.now.xid entry.now.paddr item.0.items) }
     ensures value { IfOk result (λ item. IsNumberValue entry.now.length item.1.items) }
 {
-    Ok((
-        pair(alloc, entry.xid, entry.paddr)?,
-        number(alloc, entry.length)?,
-    ))
+    both(
+        pair(alloc, entry.xid, entry.paddr),
+        number(alloc, entry.length),
+    )
 }

@@ -1,6 +1,6 @@
 // Files with a stream.
 
-use super::common::{Contents, Head, one_version, volume};
+use super::common::{Contents, Head, ROOT_OID, SMALL, one_version, volume};
 use crate::files::{FileTree, ROOT};
 use crate::plan::{NewRange, VolPlan};
 use crate::records::InodePlan;
@@ -15,9 +15,11 @@ pub(super) struct File {
     pub extents: &'static [(u64, u64, u64)],
 }
 
-// The files of a volume, the ranges that they own, and what these hold.
+// A volume with files, whose records are in a leaf of an oid: the ranges that they own, and what these hold.
 #[derive(Clone, Copy)]
 pub(super) struct Files {
+    pub head: Head,
+    pub oid: u64,
     pub files: &'static [File],
     pub ranges: &'static [NewRange],
     pub contents: Contents,
@@ -38,6 +40,8 @@ const SHARED_BLOCK: NewRange = NewRange {
 
 // The file `hello.txt` of five bytes in block 57.
 pub(super) const HELLO: Files = Files {
+    head: SMALL,
+    oid: ROOT_OID,
     files: &[File {
         id: 16,
         name: "hello.txt",
@@ -50,6 +54,8 @@ pub(super) const HELLO: Files = Files {
 
 // The file `hole` of 5,000 bytes, of which the first 4,096 are a hole and the others are in block 57.
 pub(super) const HOLE: Files = Files {
+    head: SMALL,
+    oid: ROOT_OID,
     files: &[File {
         id: 16,
         name: "hole",
@@ -62,6 +68,8 @@ pub(super) const HOLE: Files = Files {
 
 // Two files of 4,096 bytes, `a` and `b`, which have block 57 in common.
 pub(super) const SHARED: Files = Files {
+    head: SMALL,
+    oid: ROOT_OID,
     files: &[
         File {
             id: 16,
@@ -88,17 +96,12 @@ fn add_file(alloc: Global, tree: &mut FileTree, file: &File) -> Result<(), Alloc
     tree.stream(alloc, file.id, file.extents)
 }
 
-// A volume with these files, whose records are in a leaf of this oid.
-pub(super) fn volume_with(
-    alloc: Global,
-    head: &Head,
-    oid: u64,
-    has: &Files,
-) -> Result<VolPlan, AllocError> {
-    let mut tree = FileTree::new(alloc, head.names)?;
+// The volume with these files.
+pub(super) fn volume_with(alloc: Global, has: &Files) -> Result<VolPlan, AllocError> {
+    let mut tree = FileTree::new(alloc, has.head.names)?;
     for file in has.files.iter() {
         add_file(alloc, &mut tree, file)?;
     }
-    let versions = one_version(alloc, oid, tree)?;
-    volume(alloc, head, versions, has.ranges, has.contents)
+    let versions = one_version(alloc, has.oid, tree)?;
+    volume(alloc, &has.head, versions, has.ranges, has.contents)
 }

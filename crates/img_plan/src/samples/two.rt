@@ -23,6 +23,8 @@ const BLOCK: u64 = 63;
 
 // Its file.
 const HELLO: Files = Files {
+    head: SECOND,
+    oid: ROOT_OID,
     files: &[File {
         id: 16,
         name: "hello.txt",
@@ -43,7 +45,6 @@ pub(super) fn two(alloc: Global) -> Result<Plan, AllocError>
     ensures two_volumes { IfOk result (λ plan. vec_len plan.volumes ≡ 2) }
 {
     let mut plan = small::small(alloc)?;
-    plan.volumes
-        .push(volume_with(alloc, &SECOND, ROOT_OID, &HELLO)?)?;
+    plan.volumes.push(volume_with(alloc, &HELLO)?)?;
     Ok(plan)
 }
