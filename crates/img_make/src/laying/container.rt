@@ -2,7 +2,7 @@
 ghost use Rattle.img_make.specs.Images.{HasGrown};
 
 use crate::laying::files::{Ids, Placed};
-use crate::laying::image::Image;
+use crate::laying::image::{Image, add};
 use crate::laying::physical::put_physical;
 use crate::laying::queues::put_queues;
 use crate::laying::space::put_space;
@@ -36,12 +36,13 @@ fn put_container_map(
         snapshots: 0,
         latest: 0,
     };
-    let map = object_map(alloc, image.geometry, &plan)?;
-    image.put(places::CONTAINER_MAP, &map);
+    let geometry = image.geometry;
+    image.store(places::CONTAINER_MAP, object_map(alloc, geometry, &plan))?;
     let size = image.geometry.size as u32;
     let mut records = Vec::new(alloc);
     for volume in volumes.iter() {
-        records.push(map_record(alloc, volume.oid, volume.xid, size, volume.block as u64)?)?;
+        let record = map_record(alloc, volume.oid, volume.xid, size, volume.block as u64);
+        add(&mut records, record)?;
     }
     put_physical(
         alloc,
@@ -61,8 +62,8 @@ fn put_jumpstart(alloc: Global, image: &mut Image, plan: &Plan) -> Result<u64, A
         return Ok(0);
     }
     let at = image.place()?;
-    let bytes = jumpstart(alloc, image.geometry, at, plan.xid, &plan.jumpstart)?;
-    image.put(at, &bytes);
+    let geometry = image.geometry;
+    image.store(at, jumpstart(alloc, geometry, at, plan.xid, &plan.jumpstart))?;
     Ok(at as u64)
 }
 
@@ -93,11 +94,11 @@ fn put_checkpoint(
     ensures { HasGrown image.old image.new }
 {
     mappings.sort_by_key(|mapping| mapping.oid)?;
-    let map = checkpoint_map(alloc, image.geometry, container.xid, mappings)?;
-    image.put(places::CHECKPOINT_MAP, &map);
-    let idle = reaper(alloc, image.geometry, container.xid)?;
-    image.put(places::REAPER, &idle);
-    let block = superblock(alloc, image.geometry, container)?;
+    let geometry = image.geometry;
+    let map = checkpoint_map(alloc, geometry, container.xid, mappings);
+    image.store(places::CHECKPOINT_MAP, map)?;
+    image.store(places::REAPER, reaper(alloc, geometry, container.xid))?;
+    let block = superblock(alloc, geometry, container)?;
     image.put(places::SUPERBLOCK, &block);
     image.put(0, &block);
     Ok(())

@@ -2,7 +2,7 @@
 ghost use Rattle.img_make.specs.Images.{HasGrown};
 
 use crate::laying::files::Ids;
-use crate::laying::image::Image;
+use crate::laying::image::{Image, add};
 use crate::laying::trees::{Grown, Plot, grow};
 use crate::objects::checkpoint_map::Mapping;
 use apfs_layout::kind;
@@ -16,7 +16,7 @@ use std::alloc::{AllocError, Global};
 fn queue_leaves(alloc: Global, queued: &[QueueEntry]) -> Result<Vec<Leaf>, AllocError> {
     let mut records = Vec::new(alloc);
     for entry in queued.iter() {
-        records.push(queue_record(alloc, entry)?)?;
+        add(&mut records, queue_record(alloc, entry))?;
     }
     pack(alloc, records, 0)
 }

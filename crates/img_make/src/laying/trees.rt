@@ -1,5 +1,6 @@
 // Trees of nodes, built from the leaves up.
 use crate::geometry::Geometry;
+use crate::laying::image::add;
 use img_edit::node::{NodeHead, Totals, Tree, node};
 use img_plan::records::child;
 use img_plan::{Item, Leaf, pack};
@@ -113,7 +114,7 @@ fn grow_level(
         };
         let bytes = node_of(alloc, plot, &head, &part.items)?;
         grown.nodes.push(Node { oid, xid, bytes })?;
-        children.push(child(alloc, first_key(part), oid)?)?;
+        add(&mut children, child(alloc, first_key(part), oid))?;
     }
     Ok(children)
 }

@@ -2,7 +2,7 @@
 ghost use Rattle.img_make.specs.Images.{HasGrown};
 
 use crate::laying::files::{Ids, Placed, put_files, root_of};
-use crate::laying::image::Image;
+use crate::laying::image::{Image, add};
 use crate::laying::physical::put_physical;
 use crate::laying::snapshots::{Kept, put_snapshots};
 use crate::objects::object_map::{MapPlan, object_map};
@@ -59,8 +59,8 @@ fn map_records(alloc: Global, image: &Image, placed: &[Placed]) -> Result<Vec<It
     let size = image.geometry.size as u32;
     let mut records = Vec::new(alloc);
     for node in placed.iter() {
-        let record = map_record(alloc, node.oid, node.xid, size, node.block as u64)?;
-        records.push(record)?;
+        let record = map_record(alloc, node.oid, node.xid, size, node.block as u64);
+        add(&mut records, record)?;
     }
     Ok(records)
 }
@@ -69,7 +69,7 @@ fn map_records(alloc: Global, image: &Image, placed: &[Placed]) -> Result<Vec<It
 fn range_records(alloc: Global, ranges: &[NewRange]) -> Result<Vec<Item>, AllocError> {
     let mut records = Vec::new(alloc);
     for range in ranges.iter() {
-        records.push(range_record(alloc, range)?)?;
+        add(&mut records, range_record(alloc, range))?;
     }
     Ok(records)
 }
@@ -118,9 +118,8 @@ fn put_map(
         snapshots,
         latest,
     };
-    let bytes = object_map(alloc, image.geometry, &plan)?;
-    image.put(blocks.map, &bytes);
-    Ok(())
+    let geometry = image.geometry;
+    image.store(blocks.map, object_map(alloc, geometry, &plan))
 }
 
 // The contents of the volume's files.
@@ -204,8 +203,11 @@ pub(crate) fn put_volume(
     if let Some(live) = volume.versions.last() {
         places.root = root_of(live, root);
     }
-    let bytes = volume_superblock(alloc, image.geometry, volume, &places)?;
-    image.put(blocks.superblock, &bytes);
+    let geometry = image.geometry;
+    image.store(
+        blocks.superblock,
+        volume_superblock(alloc, geometry, volume, &places),
+    )?;
     put_contents(image, volume);
     Ok(Placed {
         oid,
