@@ -1,21 +1,21 @@
 // The container's own objects.
 ghost use Rattle.img_make.specs.Images.{HasGrown};
 
-use crate::laying::files::{Ids, Placed};
-use crate::laying::image::{Image, add};
+use crate::laying::files::Ids;
+use crate::laying::image::Image;
 use crate::laying::physical::put_physical;
 use crate::laying::queues::put_queues;
 use crate::laying::space::put_space;
+use crate::laying::volumes::map_records;
 use crate::objects::checkpoint_map::{Mapping, checkpoint_map};
 use crate::objects::jumpstart::jumpstart;
-use crate::objects::object_map::{MapPlan, object_map};
+use crate::objects::object_map::{MapPlan, Placed, object_map};
 use crate::objects::reaper::reaper;
 use crate::objects::superblock::{Container, superblock};
 use apfs_layout::kind;
 use img_edit::node::Tree;
 use img_edit::places;
 use img_plan::Plan;
-use img_plan::records::map_record;
 use std::alloc::{AllocError, Global};
 
 // The container's object map and its tree.
@@ -38,12 +38,7 @@ fn put_container_map(
     };
     let geometry = image.geometry;
     image.store(places::CONTAINER_MAP, object_map(alloc, geometry, &plan))?;
-    let size = image.geometry.size as u32;
-    let mut records = Vec::new(alloc);
-    for volume in volumes.iter() {
-        let record = map_record(alloc, volume.oid, volume.xid, size, volume.block as u64);
-        add(&mut records, record)?;
-    }
+    let records = map_records(alloc, image, volumes)?;
     put_physical(
         alloc,
         image,
@@ -104,11 +99,6 @@ fn put_checkpoint(
     Ok(())
 }
 
-// The oids of the volumes by slot.
-fn oids_of(alloc: Global, volumes: &[Placed]) -> Result<Vec<u64>, AllocError> {
-    volumes.iter().map(|volume| volume.oid).collect(alloc)
-}
-
 /// The objects of the container itself, once all others have their blocks.
 pub(crate) fn put_container(
     alloc: Global,
@@ -125,14 +115,13 @@ pub(crate) fn put_container(
     let mut mappings = first_mappings(alloc)?;
     put_queues(alloc, image, plan.xid, &plan.queued, ids, &mut mappings)?;
     put_space(alloc, image, plan.xid, &plan.queued, pool_blocks)?;
-    let oids = oids_of(alloc, volumes)?;
     let container = Container {
         blocks: image.used.len() as u64,
         xid: plan.xid,
         next_oid: ids.next,
         data_len: mappings.len(),
         jumpstart,
-        volumes: &oids,
+        volumes,
     };
     put_checkpoint(alloc, image, &container, &mut mappings)
 }

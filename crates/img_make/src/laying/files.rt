@@ -4,6 +4,7 @@ ghost use Rattle.img_make.specs.Images.{HasGrown};
 use crate::geometry::Geometry;
 use crate::laying::image::Image;
 use crate::laying::trees::{Node, Plot, grow};
+use crate::objects::object_map::Placed;
 use img_edit::node::Tree;
 use img_plan::{Version, VolPlan};
 use std::alloc::{AllocError, Global};
@@ -27,14 +28,6 @@ impl Ids {
 #[derive(Drop)]
 struct Uppers {
     oids: Vec<u64>,
-}
-
-/// A record of an object map: an object of a transaction, in a block.
-#[derive(Clone, Copy)]
-pub(crate) struct Placed {
-    pub oid: u64,
-    pub xid: u64,
-    pub block: usize,
 }
 
 /// The root's id in a version: a leaf alone is the root, and keeps its own.
@@ -90,9 +83,7 @@ fn all_nodes(
         oids: Vec::new(alloc),
     };
     for version in versions.iter() {
-        for node in nodes_of(alloc, geometry, version, root, &mut uppers, ids)? {
-            nodes.push(node)?;
-        }
+        nodes.append(&mut nodes_of(alloc, geometry, version, root, &mut uppers, ids)?)?;
     }
     nodes.sort_by_key(|node| (node.oid, node.xid))?;
     Ok(nodes)

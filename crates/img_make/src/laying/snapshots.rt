@@ -35,11 +35,8 @@ fn put_snapshot(
 {
     let superblock = image.place()?;
     let extents = image.place()?;
-    let mut then = *places;
-    then.xid = version.xid;
-    then.root = root_of(version, places.root);
-    then.extents = extents;
-    then.count = kept.in_map.len();
+    let root = root_of(version, places.root);
+    let then = places.at(version.xid, root, extents, kept.in_map.len());
     let geometry = image.geometry;
     image.store(superblock, volume_superblock(alloc, geometry, volume, &then))?;
     put_physical(

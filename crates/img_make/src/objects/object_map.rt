@@ -9,6 +9,14 @@ use img_edit::header::{Head, PHYSICAL, block_with, type_of};
 use img_edit::reseal;
 use std::alloc::{AllocError, Global};
 
+/// A record of an object map: an object of a transaction, in a block.
+#[derive(Clone, Copy)]
+pub(crate) struct Placed {
+    pub oid: u64,
+    pub xid: u64,
+    pub block: usize,
+}
+
 /// An object map, but for its trees' contents.
 #[derive(Clone, Copy)]
 pub(crate) struct MapPlan {

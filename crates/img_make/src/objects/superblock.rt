@@ -3,6 +3,7 @@ ghost use Rattle.std.specs.Prelude.{◌≡◌, ◌≤◌, length};
 
 use crate::geometry::Geometry;
 use crate::objects::fields::{Field, put_fields};
+use crate::objects::object_map::Placed;
 use apfs_layout::container::{
     BLOCK_COUNT, BLOCK_SIZE, DATA_BASE, DATA_BLOCKS, DATA_LEN, DATA_NEXT, DESC_BASE, DESC_BLOCKS,
     DESC_LEN, DESC_NEXT, EPHEMERAL_INFO, FS_OID, INCOMPAT, JUMPSTART, MAGIC, MAX_FILE_SYSTEMS,
@@ -34,8 +35,8 @@ pub(crate) struct Container<'a> {
     pub data_len: usize,
     /// The block of the jumpstart, 0 where there is none.
     pub jumpstart: u64,
-    /// The oids of the volumes by slot.
-    pub volumes: &'a [u64],
+    /// The volumes by slot.
+    pub volumes: &'a [Placed],
 }
 
 // How many volumes the container may have.
@@ -64,12 +65,12 @@ fn put_areas(block: &mut [u8], data_len: usize) {
 }
 
 // The volumes that the superblock names.
-fn put_volumes(block: &mut [u8], volumes: &[u64])
+fn put_volumes(block: &mut [u8], volumes: &[Placed])
     requires { 4096 ≤ length block.old }
 {
-    for (slot, oid) in volumes.iter().enumerate() {
+    for (slot, volume) in volumes.iter().enumerate() {
         if slot < SLOTS {
-            put_u64(block, FS_OID + 8 * slot, *oid);
+            put_u64(block, FS_OID + 8 * slot, volume.oid);
         }
     }
 }

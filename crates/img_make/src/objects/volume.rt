@@ -49,6 +49,19 @@ pub(crate) struct Places {
     pub next_id: u64,
 }
 
+impl Places {
+    /// The same at a transaction, with these roots of its files and its extent references, and so many snapshots.
+    pub(crate) fn at(self, xid: u64, root: u64, extents: usize, count: usize) -> Places {
+        Places {
+            xid,
+            root,
+            extents,
+            count,
+            ..self
+        }
+    }
+}
+
 // The volume's features by its names.
 fn features_of(names: Names) -> u64 {
     match names {
