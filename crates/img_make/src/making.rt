@@ -117,7 +117,6 @@ fn image_that_fits(alloc: Global, geometry: Geometry, plan: &Plan) -> Result<Ima
 }
 
 // The bytes of the image of a plan.
-#[tactic(auto, using(crate::proofs::Sizes::whole_blocks, crate::proofs::Sizes::more_blocks))]
 fn made(alloc: Global, geometry: Geometry, plan: &Plan) -> Result<Vec<u8>, NoMemory>
     requires { IsValid plan.now }
     ensures in_blocks { IfOk result (λ image. vec_len image % geometry.size ≡ 0) }

@@ -58,7 +58,10 @@ fn put_jumpstart(alloc: Global, image: &mut Image, plan: &Plan) -> Result<u64, A
     }
     let at = image.place()?;
     let geometry = image.geometry;
-    image.store(at, jumpstart(alloc, geometry, at, plan.xid, &plan.jumpstart))?;
+    image.store(
+        at,
+        jumpstart(alloc, geometry, at, plan.xid, &plan.jumpstart),
+    )?;
     Ok(at as u64)
 }
 

@@ -38,7 +38,10 @@ fn put_snapshot(
     let root = root_of(version, places.root);
     let then = places.at(version.xid, root, extents, kept.in_map.len());
     let geometry = image.geometry;
-    image.store(superblock, volume_superblock(alloc, geometry, volume, &then))?;
+    image.store(
+        superblock,
+        volume_superblock(alloc, geometry, volume, &then),
+    )?;
     put_physical(
         alloc,
         image,

@@ -88,7 +88,10 @@ fn put_cabs(alloc: Global, image: &mut Image, xid: u64, pool: &PoolPlan) -> Resu
         let block = pool.first_cab().saturating_add(index);
         let first = POOL_BASE.saturating_add(named);
         let spot = Spot { block, index };
-        image.store(block, address_block(alloc, geometry, xid, spot, first, count))?;
+        image.store(
+            block,
+            address_block(alloc, geometry, xid, spot, first, count),
+        )?;
     }
     Ok(())
 }

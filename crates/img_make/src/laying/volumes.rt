@@ -59,7 +59,11 @@ fn next_id(volume: &VolPlan) -> u64 {
 }
 
 /// The records by which an object map finds objects of one block.
-pub(crate) fn map_records(alloc: Global, image: &Image, placed: &[Placed]) -> Result<Vec<Item>, AllocError> {
+pub(crate) fn map_records(
+    alloc: Global,
+    image: &Image,
+    placed: &[Placed],
+) -> Result<Vec<Item>, AllocError> {
     let size = image.geometry.size as u32;
     let mut records = Vec::new(alloc);
     for node in placed.iter() {
