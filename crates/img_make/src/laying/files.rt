@@ -94,6 +94,20 @@ fn changed(alloc: Global, nodes: Vec<Node>) -> Result<Vec<Node>, AllocError> {
     Ok(kept)
 }
 
+// The next block: the one that is kept for the live root where that hasn't had it yet, otherwise the first free one.
+fn next_block(
+    image: &mut Image,
+    is_live: bool,
+    kept: &mut Option<usize>,
+) -> Result<usize, AllocError>
+    ensures { HasGrown image.old image.new }
+{
+    if is_live && let Some(block) = kept.take() {
+        return Ok(block);
+    }
+    image.place()
+}
+
 // Nodes in their blocks: the first one of the live root in its own, the others in the first free ones.
 fn put_nodes(
     alloc: Global,
@@ -105,14 +119,9 @@ fn put_nodes(
     ensures { HasGrown image.old image.new }
 {
     let mut placed = Vec::new(alloc);
-    let mut is_rooted = false;
+    let mut kept = Some(root_block);
     for node in nodes.iter() {
-        let block = if node.oid == live && !is_rooted {
-            is_rooted = true;
-            root_block
-        } else {
-            image.place()?
-        };
+        let block = next_block(image, node.oid == live, &mut kept)?;
         image.put(block, &node.bytes);
         placed.push(Placed {
             oid: node.oid,
