@@ -91,11 +91,6 @@ part_behind place n old part inside all =
 pub written_back : (P : List ℕ → Type 0) (n : ℕ) (new rest : List ℕ) → length new ≡ n → P new → P (take n (new ++ rest))
 written_back P n new rest long p = subst P (sym (take_at new rest n long)) p
 
--- a name at the end of some bytes, after bytes that start with others were written back to where they were lent from
-pub name_kept : (place : ℕ) (name items lent new rest : List ℕ) (n end : ℕ) → end ≤ place → length new ≡ n → lent ≡ items → drop end new ≡ drop end lent → EndsInName place name items → EndsInName place name (take n (new ++ rest))
-name_kept place name items lent new rest n end past long same after named =
-    rw (take_at new rest n long) (name_stays place name items new end past (after ∙ ap (λ l. drop end l) same) named)
-
 -- a byte before a place stays where the bytes before that place do
 pub byte_before : (old new : List ℕ) (at start : ℕ) → at < start → take start new ≡ take start old → ◌≡◌ {A = ℕ} (get_or new at 0) (get_or old at 0)
 byte_before old new at start inside same = sym (get_or-take start new at 0 inside) ∙ ap (λ (l : List ℕ). get_or l at 0) same ∙ get_or-take start old at 0 inside
