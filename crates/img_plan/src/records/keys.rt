@@ -26,7 +26,7 @@ pub fn node_bytes(item: &Item) -> usize
 }
 
 // An item of a key and a value that were made.
-pub(super) fn both(
+pub(crate) fn both(
     key: Result<Vec<u8>, AllocError>,
     value: Result<Vec<u8>, AllocError>,
 ) -> Result<Item, AllocError>
@@ -37,7 +37,7 @@ pub(super) fn both(
 }
 
 // So many zeros.
-pub(super) fn zeros(alloc: Global, len: usize) -> Result<Vec<u8>, AllocError>
+pub(crate) fn zeros(alloc: Global, len: usize) -> Result<Vec<u8>, AllocError>
     ensures len { IfOk result (λ bytes. vec_len bytes ≡ len) }
     ensures zeros { IfOk result (λ bytes. bytes.items ≡ replicate len 0) }
 {
@@ -48,7 +48,7 @@ pub(super) fn zeros(alloc: Global, len: usize) -> Result<Vec<u8>, AllocError>
 const NUMBER_LEN: usize = 8;
 
 // A key or a value that is a number.
-pub(super) fn number(alloc: Global, number: u64) -> Result<Vec<u8>, AllocError>
+pub(crate) fn number(alloc: Global, number: u64) -> Result<Vec<u8>, AllocError>
     ensures { IfOk result (λ bytes. IsNumberValue number bytes.items) }
 {
     let mut bytes = zeros(alloc, NUMBER_LEN)?;
@@ -66,7 +66,7 @@ fn put_pair(pair: &mut [u8], first: u64, second: u64)
 }
 
 // A key that is two numbers.
-pub(super) fn pair(alloc: Global, first: u64, second: u64) -> Result<Vec<u8>, AllocError>
+pub(crate) fn pair(alloc: Global, first: u64, second: u64) -> Result<Vec<u8>, AllocError>
     ensures { IfOk result (λ key. IsPairKey first second key.items) }
 {
     let mut pair = zeros(alloc, 2 * NUMBER_LEN)?;
