@@ -6,10 +6,11 @@ ghost use Rattle.img_make.specs.Images.{HasGrown, IsImageOf};
 
 use crate::geometry::{Geometry, Groups};
 use crate::laying::container::put_container;
-use crate::laying::files::{Ids, Placed};
+use crate::laying::files::Ids;
 use crate::laying::image::Image;
 use crate::laying::space::{chunks_of, pool_of};
 use crate::laying::volumes::put_volume;
+use crate::objects::object_map::Placed;
 use apfs_model::NoMemory;
 use img_edit::places::{FIRST_OID, POOL_BASE, POOL_BLOCKS};
 use img_plan::{Plan, VolPlan};
@@ -116,7 +117,6 @@ fn image_that_fits(alloc: Global, geometry: Geometry, plan: &Plan) -> Result<Ima
 }
 
 // The bytes of the image of a plan.
-#[tactic(auto, using(crate::proofs::Sizes::whole_blocks, crate::proofs::Sizes::more_blocks))]
 fn made(alloc: Global, geometry: Geometry, plan: &Plan) -> Result<Vec<u8>, NoMemory>
     requires { IsValid plan.now }
     ensures in_blocks { IfOk result (λ image. vec_len image % geometry.size ≡ 0) }

@@ -2,6 +2,7 @@
 
 pub(crate) mod checkpoint_map;
 pub(crate) mod chunk_info;
+pub(crate) mod fields;
 pub(crate) mod jumpstart;
 pub(crate) mod object_map;
 pub(crate) mod reaper;

@@ -1,8 +1,10 @@
 -- The fixed parts of values stay where the bytes before a place do.
-use Rattle.std.proofs.Common.{◌≡◌, ℕ, List, take, ◌∙◌, arith}
+use Rattle.std.proofs.Common.{◌≡◌, ℕ, List, Vec, Result, Ok, Err, None, IfOk, take, drop, vec_len, subst, sym, ◌∙◌, arith}
+use Rattle.std.proofs.lemmas.List.{drop_all}
+use Rattle.std.specs.declared.alloc.Global.{Global}
 use Rattle.apfs_model.specs.Bytes.{u16_at, u32_at, u64_at}
 use Rattle.img_plan.specs.declared.records.inodes.InodePlan.{InodePlan}
-use Rattle.img_plan.specs.Records.{IsEntryFront, IsInodeFront}
+use Rattle.img_plan.specs.Records.{EndsInStream, IsEntryFront, IsInodeFront, IsInodeValue}
 use Rattle.img_plan.proofs.Kept.{number_before}
 
 -- the fixed part of an entry's value
@@ -35,3 +37,11 @@ inode_front_stays plan old new same was = record {
   pad = number_before 2 old new 82 92 (omega arith) same ∙ was.pad;
   uncompressed = number_before 8 old new 84 92 (omega arith) same ∙ was.uncompressed;
 }
+
+-- the fixed part of an inode's value alone is the value of an inode without a stream
+pub no_stream : {E : Type 0} (plan : InodePlan) (made : Result (Vec ℕ Global) E) → plan.stream ≡ None → IfOk made (λ value. vec_len value ≡ 92) → IfOk made (λ value. IsInodeFront plan value.items) → IfOk made (λ value. IsInodeValue plan value.items)
+no_stream plan (Ok value) none len front = record {
+  front = front;
+  end = subst (λ stream. EndsInStream stream (drop 92 value.items)) (sym none) (drop_all 92 value.items (omega (arith, value.ok.0, len)));
+}
+no_stream plan (Err e) none len front = tt

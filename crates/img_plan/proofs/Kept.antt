@@ -1,7 +1,7 @@
 -- Numbers that stay where others are written, and numbers in zeros.
-use Rattle.std.proofs.Common.{◌≡◌, ℕ, zero, suc, ◌+◌, ◌-◌, ◌<◌, ◌≤◌, List, ◌++◌, length, take, drop, replicate, get_or, set, refl, ap, sym, ◌∙◌, inl, inr, arith}
+use Rattle.std.proofs.Common.{◌≡◌, ℕ, zero, suc, ◌+◌, ◌-◌, ◌<◌, ◌≤◌, List, ◌++◌, length, take, drop, replicate, get_or, set, refl, ap, subst, sym, ◌∙◌, inl, inr, arith}
 use Rattle.std.proofs.lemmas.Bool.{cases_lt}
-use Rattle.std.proofs.lemmas.List.{get_or-take, get_or-drop, get_or-replicate, get_or_past, drop-drop, drop_at, take_at, take_all, take-set-le, length-take-le, length-replicate}
+use Rattle.std.proofs.lemmas.List.{append-nil, get_or-take, get_or-drop, get_or-replicate, get_or_past, drop-drop, drop_all, drop_at, take_at, take_all, take-set-le, length-drop, length-take-le, length-replicate}
 use Rattle.img_edit.proofs.Sealed.{number_past}
 use Rattle.apfs_model.specs.Bytes.{number_at, u16_at, u64_at}
 use Rattle.img_edit.specs.Edits.{IsSameAround, put_at}
@@ -82,10 +82,14 @@ stays_before n old new at start end inside same = number_before n old new at sta
 pub stays_after : (n : ℕ) (old new : List ℕ) (at start end : ℕ) → end ≤ at → IsSameAround start end old new → number_at n new at ≡ number_at n old at
 stays_after n old new at start end past same = number_past n new old end (at - end) at (omega (arith, past)) same.after
 
--- a name at the end of some bytes, after bytes that start with others were written back to where they were lent from
-pub name_kept : (place : ℕ) (name items lent new rest : List ℕ) (n end : ℕ) → end ≤ place → length new ≡ n → lent ≡ items → drop end new ≡ drop end lent → EndsInName place name items → EndsInName place name (take n (new ++ rest))
-name_kept place name items lent new rest n end past long same after named =
-    rw (take_at new rest n long) (name_stays place name items new end past (after ∙ ap (λ l. drop end l) same) named)
+-- behind a place stands what was written in place of all that was there
+pub part_behind : (place n : ℕ) (old part : List ℕ) → place ≤ length old → length old ≤ place + n → drop place (take place old ++ (part ++ drop n (drop place old))) ≡ part
+part_behind place n old part inside all =
+    drop_at (take place old) (part ++ drop n (drop place old)) place (length-take-le place old inside) ∙ ap (λ l. part ++ l) (drop_all n (drop place old) (omega (arith, length-drop place old))) ∙ append-nil part
+
+-- what holds of bytes that were lent holds of them where they are written back to
+pub written_back : (P : List ℕ → Type 0) (n : ℕ) (new rest : List ℕ) → length new ≡ n → P new → P (take n (new ++ rest))
+written_back P n new rest long p = subst P (sym (take_at new rest n long)) p
 
 -- a byte before a place stays where the bytes before that place do
 pub byte_before : (old new : List ℕ) (at start : ℕ) → at < start → take start new ≡ take start old → ◌≡◌ {A = ℕ} (get_or new at 0) (get_or old at 0)

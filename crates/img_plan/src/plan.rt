@@ -54,7 +54,7 @@ pub struct Leaf {
 }
 
 /// An entry of a free queue: blocks that are freed with a transaction.
-#[derive(Clone, Copy, PartialEq, Eq)]
+#[derive(Clone, Copy)]
 pub struct QueueEntry {
     pub xid: u64,
     /// The first block.
@@ -64,7 +64,7 @@ pub struct QueueEntry {
 }
 
 /// A range of blocks that files own.
-#[derive(Clone, Copy, PartialEq, Eq)]
+#[derive(Clone, Copy)]
 pub struct NewRange {
     /// The first block.
     pub first: u64,

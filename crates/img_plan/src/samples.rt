@@ -5,20 +5,20 @@ ghost use Rattle.img_plan.specs.Plans.{IsSmall, IsValid};
 ghost use Rattle.img_plan.specs.Samples.{volumes_of};
 
 mod common;
-mod hello;
-mod hole;
 mod jump;
 mod links;
-mod shared;
 mod small;
 mod snapshots;
+mod streams;
 mod two;
 
 use crate::checked::checked;
-use crate::plan::Plan;
+use crate::plan::{Plan, VolPlan};
 use crate::which::Sample;
 use apfs_model::NoMemory;
+use common::container;
 use std::alloc::{AllocError, Global};
+use streams::{HELLO, HOLE, SHARED, volume_with};
 
 // The plan of two volumes.
 fn two_volumes(alloc: Global) -> Result<Plan, AllocError>
@@ -29,6 +29,28 @@ fn two_volumes(alloc: Global) -> Result<Plan, AllocError>
     checked(two::two(alloc)?)
 }
 
+// The volume of a sample of one.
+fn volume(alloc: Global, which: Sample) -> Result<VolPlan, AllocError> {
+    match which {
+        Sample::S | Sample::J | Sample::T => small::small_volume(alloc),
+        Sample::H => volume_with(alloc, &HELLO),
+        Sample::P => volume_with(alloc, &HOLE),
+        Sample::C => volume_with(alloc, &SHARED),
+        Sample::V => snapshots::volume_with(alloc, snapshots::TWO),
+        Sample::V2 => snapshots::volume_with(alloc, snapshots::EIGHT),
+        Sample::L => links::links(alloc),
+    }
+}
+
+// The checkpoint's transaction: that of the volume's last version, or the next one where that is a snapshot.
+fn xid(which: Sample) -> u64 {
+    match which {
+        Sample::V => 5,
+        Sample::V2 => 9,
+        _ => 1,
+    }
+}
+
 // The plan of a sample of one volume.
 fn one_volume(alloc: Global, which: Sample) -> Result<Plan, AllocError>
     ensures valid { IfOk result IsValid }
@@ -36,14 +58,8 @@ fn one_volume(alloc: Global, which: Sample) -> Result<Plan, AllocError>
     ensures one_volume { IfOk result (λ plan. vec_len plan.volumes ≡ 1) }
 {
     let plan = match which {
-        Sample::S | Sample::T => small::small(alloc),
-        Sample::H => hello::hello(alloc),
-        Sample::V => snapshots::snapshots(alloc),
-        Sample::V2 => snapshots::eight(alloc),
-        Sample::L => links::links(alloc),
-        Sample::P => hole::hole(alloc),
-        Sample::C => shared::shared(alloc),
         Sample::J => jump::jump(alloc),
+        _ => container(alloc, xid(which), volume(alloc, which)?),
     };
     checked(plan?)
 }

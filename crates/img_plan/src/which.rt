@@ -1,7 +1,7 @@
 // The plans that tests start from, by name.
 
 /// A plan that tests start from.
-#[derive(Clone, Copy, PartialEq, Eq, Debug)]
+#[derive(Clone, Copy, Debug)]
 pub enum Sample {
     /// Small: one volume with nothing but its two directories.
     S,

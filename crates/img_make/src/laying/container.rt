@@ -1,21 +1,21 @@
 // The container's own objects.
 ghost use Rattle.img_make.specs.Images.{HasGrown};
 
-use crate::laying::files::{Ids, Placed};
+use crate::laying::files::Ids;
 use crate::laying::image::Image;
 use crate::laying::physical::put_physical;
 use crate::laying::queues::put_queues;
 use crate::laying::space::put_space;
+use crate::laying::volumes::map_records;
 use crate::objects::checkpoint_map::{Mapping, checkpoint_map};
 use crate::objects::jumpstart::jumpstart;
-use crate::objects::object_map::{MapPlan, object_map};
+use crate::objects::object_map::{MapPlan, Placed, object_map};
 use crate::objects::reaper::reaper;
 use crate::objects::superblock::{Container, superblock};
 use apfs_layout::kind;
 use img_edit::node::Tree;
 use img_edit::places;
 use img_plan::Plan;
-use img_plan::records::map_record;
 use std::alloc::{AllocError, Global};
 
 // The container's object map and its tree.
@@ -36,13 +36,9 @@ fn put_container_map(
         snapshots: 0,
         latest: 0,
     };
-    let map = object_map(alloc, image.geometry, &plan)?;
-    image.put(places::CONTAINER_MAP, &map);
-    let size = image.geometry.size as u32;
-    let mut records = Vec::new(alloc);
-    for volume in volumes.iter() {
-        records.push(map_record(alloc, volume.oid, volume.xid, size, volume.block as u64)?)?;
-    }
+    let geometry = image.geometry;
+    image.store(places::CONTAINER_MAP, object_map(alloc, geometry, &plan))?;
+    let records = map_records(alloc, image, volumes)?;
     put_physical(
         alloc,
         image,
@@ -61,8 +57,11 @@ fn put_jumpstart(alloc: Global, image: &mut Image, plan: &Plan) -> Result<u64, A
         return Ok(0);
     }
     let at = image.place()?;
-    let bytes = jumpstart(alloc, image.geometry, at, plan.xid, &plan.jumpstart)?;
-    image.put(at, &bytes);
+    let geometry = image.geometry;
+    image.store(
+        at,
+        jumpstart(alloc, geometry, at, plan.xid, &plan.jumpstart),
+    )?;
     Ok(at as u64)
 }
 
@@ -93,19 +92,14 @@ fn put_checkpoint(
     ensures { HasGrown image.old image.new }
 {
     mappings.sort_by_key(|mapping| mapping.oid)?;
-    let map = checkpoint_map(alloc, image.geometry, container.xid, mappings)?;
-    image.put(places::CHECKPOINT_MAP, &map);
-    let idle = reaper(alloc, image.geometry, container.xid)?;
-    image.put(places::REAPER, &idle);
-    let block = superblock(alloc, image.geometry, container)?;
+    let geometry = image.geometry;
+    let map = checkpoint_map(alloc, geometry, container.xid, mappings);
+    image.store(places::CHECKPOINT_MAP, map)?;
+    image.store(places::REAPER, reaper(alloc, geometry, container.xid))?;
+    let block = superblock(alloc, geometry, container)?;
     image.put(places::SUPERBLOCK, &block);
     image.put(0, &block);
     Ok(())
-}
-
-// The oids of the volumes by slot.
-fn oids_of(alloc: Global, volumes: &[Placed]) -> Result<Vec<u64>, AllocError> {
-    volumes.iter().map(|volume| volume.oid).collect(alloc)
 }
 
 /// The objects of the container itself, once all others have their blocks.
@@ -124,14 +118,13 @@ pub(crate) fn put_container(
     let mut mappings = first_mappings(alloc)?;
     put_queues(alloc, image, plan.xid, &plan.queued, ids, &mut mappings)?;
     put_space(alloc, image, plan.xid, &plan.queued, pool_blocks)?;
-    let oids = oids_of(alloc, volumes)?;
     let container = Container {
         blocks: image.used.len() as u64,
         xid: plan.xid,
         next_oid: ids.next,
         data_len: mappings.len(),
         jumpstart,
-        volumes: &oids,
+        volumes,
     };
     put_checkpoint(alloc, image, &container, &mut mappings)
 }

@@ -3,7 +3,8 @@ ghost use Rattle.img_make.specs.Images.{HasGrown};
 
 use crate::geometry::Geometry;
 use crate::laying::image::Image;
-use crate::laying::trees::{Node, Plot, grow};
+use crate::laying::trees::{Grown, Node, Plot, grow};
+use crate::objects::object_map::Placed;
 use img_edit::node::Tree;
 use img_plan::{Version, VolPlan};
 use std::alloc::{AllocError, Global};
@@ -23,20 +24,6 @@ impl Ids {
     }
 }
 
-/// The ids of the nodes above the leaves, which all versions have in common.
-#[derive(Drop)]
-struct Uppers {
-    oids: Vec<u64>,
-}
-
-/// A record of an object map: an object of a transaction, in a block.
-#[derive(Clone, Copy)]
-pub(crate) struct Placed {
-    pub oid: u64,
-    pub xid: u64,
-    pub block: usize,
-}
-
 /// The root's id in a version: a leaf alone is the root, and keeps its own.
 pub(crate) fn root_of(version: &Version, root: u64) -> u64 {
     match version.leaves.as_slice() {
@@ -45,25 +32,23 @@ pub(crate) fn root_of(version: &Version, root: u64) -> u64 {
     }
 }
 
-impl Uppers {
-    // So many ids at least.
-    fn reach(&mut self, count: usize, ids: &mut Ids) -> Result<(), AllocError> {
-        for _ in self.oids.len()..count {
-            self.oids.push(ids.take())?;
-        }
-        Ok(())
+/// So many ids at least.
+pub(crate) fn reach(oids: &mut Vec<u64>, count: usize, ids: &mut Ids) -> Result<(), AllocError> {
+    for _ in oids.len()..count {
+        oids.push(ids.take())?;
     }
+    Ok(())
 }
 
-// The nodes of one version's tree.
-fn nodes_of(
+// The tree of one version. The nodes above the leaves have the same ids in all versions.
+fn tree_of(
     alloc: Global,
     geometry: Geometry,
     version: &Version,
     root: u64,
-    uppers: &mut Uppers,
+    uppers: &mut Vec<u64>,
     ids: &mut Ids,
-) -> Result<Vec<Node>, AllocError> {
+) -> Result<Grown, AllocError> {
     let plot = Plot {
         geometry,
         tree: Tree::FILE_SYSTEM,
@@ -72,9 +57,8 @@ fn nodes_of(
         oids: &[],
     };
     let count = grow(alloc, &plot, &version.leaves)?.taken;
-    uppers.reach(count, ids)?;
-    let named = plot.with(&uppers.oids);
-    Ok(grow(alloc, &named, &version.leaves)?.nodes)
+    reach(uppers, count, ids)?;
+    grow(alloc, &plot.with(uppers), &version.leaves)
 }
 
 // The nodes of all versions, by id and then by transaction.
@@ -86,13 +70,10 @@ fn all_nodes(
     ids: &mut Ids,
 ) -> Result<Vec<Node>, AllocError> {
     let mut nodes = Vec::new(alloc);
-    let mut uppers = Uppers {
-        oids: Vec::new(alloc),
-    };
+    let mut uppers = Vec::new(alloc);
     for version in versions.iter() {
-        for node in nodes_of(alloc, geometry, version, root, &mut uppers, ids)? {
-            nodes.push(node)?;
-        }
+        let mut grown = tree_of(alloc, geometry, version, root, &mut uppers, ids)?;
+        nodes.append(&mut grown.nodes)?;
     }
     nodes.sort_by_key(|node| (node.oid, node.xid))?;
     Ok(nodes)
@@ -113,6 +94,44 @@ fn changed(alloc: Global, nodes: Vec<Node>) -> Result<Vec<Node>, AllocError> {
     Ok(kept)
 }
 
+// The next block: the one that is kept for the live root where that hasn't had it yet, otherwise the first free one.
+fn next_block(
+    image: &mut Image,
+    is_live: bool,
+    kept: &mut Option<usize>,
+) -> Result<usize, AllocError>
+    ensures { HasGrown image.old image.new }
+{
+    if is_live && let Some(block) = kept.take() {
+        return Ok(block);
+    }
+    image.place()
+}
+
+// Nodes in their blocks: the first one of the live root in its own, the others in the first free ones.
+fn put_nodes(
+    alloc: Global,
+    image: &mut Image,
+    nodes: &[Node],
+    live: u64,
+    root_block: usize,
+) -> Result<Vec<Placed>, AllocError>
+    ensures { HasGrown image.old image.new }
+{
+    let mut placed = Vec::new(alloc);
+    let mut kept = Some(root_block);
+    for node in nodes.iter() {
+        let block = next_block(image, node.oid == live, &mut kept)?;
+        image.put(block, &node.bytes);
+        placed.push(Placed {
+            oid: node.oid,
+            xid: node.xid,
+            block,
+        })?;
+    }
+    Ok(placed)
+}
+
 /// The trees of all versions of a volume: the live root's first node in a block that it is given, and the other nodes
 /// in the first free blocks, by id and then by transaction. The answer is where each stands, in this order.
 pub(crate) fn put_files(
@@ -130,21 +149,6 @@ pub(crate) fn put_files(
         None => root,
     };
     let nodes = all_nodes(alloc, image.geometry, &volume.versions, root, ids)?;
-    let mut placed = Vec::new(alloc);
-    let mut is_rooted = false;
-    for node in changed(alloc, nodes)?.iter() {
-        let block = if node.oid == live && !is_rooted {
-            is_rooted = true;
-            root_block
-        } else {
-            image.place()?
-        };
-        image.put(block, &node.bytes);
-        placed.push(Placed {
-            oid: node.oid,
-            xid: node.xid,
-            block,
-        })?;
-    }
-    Ok(placed)
+    let nodes = changed(alloc, nodes)?;
+    put_nodes(alloc, image, &nodes, live, root_block)
 }

@@ -3,6 +3,7 @@ ghost use Rattle.std.specs.Prelude.{◌≡◌, ◌≤◌, ◌<◌, ◌*◌, ◌+
 
 use crate::geometry::Geometry;
 use img_edit::write;
+use img_plan::Item;
 use std::alloc::{AllocError, Global};
 
 /// The most blocks of an image: those of a full chunk-info block of 4,096 bytes.
@@ -18,6 +19,12 @@ pub(crate) struct Image {
     /// All blocks before this one are used.
     pub next: usize,
     ghost whole: { vec_len bytes ≡ geometry.size * vec_len used },
+}
+
+/// Adds an item that was made.
+pub(crate) fn add(items: &mut Vec<Item>, made: Result<Item, AllocError>) -> Result<(), AllocError> {
+    items.push(made?)?;
+    Ok(())
 }
 
 impl Image {
@@ -47,6 +54,19 @@ impl Image {
             let _ = write(&mut self.bytes, self.geometry.size, at, 0, block);
             self.used[at] = true;
         }
+    }
+
+    /// Writes a whole block that was made, as `put` does.
+    pub(crate) fn store(
+        &mut self,
+        at: usize,
+        made: Result<Vec<u8>, AllocError>,
+    ) -> Result<(), AllocError>
+        ensures { HasGrown self.old self.new }
+    {
+        let block = made?;
+        self.put(at, &block);
+        Ok(())
     }
 
     /// Writes the bytes from a block on, where the image has room for them.

@@ -2,9 +2,9 @@
 ghost use Rattle.img_make.specs.Images.{HasGrown};
 
 use crate::laying::image::Image;
-use crate::laying::trees::{Plot, grow};
+use crate::laying::trees::{Grown, Plot, grow};
 use img_edit::node::Tree;
-use img_plan::{Item, pack};
+use img_plan::{Item, Leaf, pack};
 use std::alloc::{AllocError, Global};
 
 // So many blocks, the first free ones.
@@ -17,6 +17,20 @@ fn blocks(alloc: Global, image: &mut Image, count: usize) -> Result<Vec<u64>, Al
         blocks.push(block as u64)?;
     }
     Ok(blocks)
+}
+
+// A physical tree whose nodes below the root are named by the first free blocks.
+fn grow_named(
+    alloc: Global,
+    image: &mut Image,
+    plot: &Plot<'_>,
+    leaves: &[Leaf],
+) -> Result<Grown, AllocError>
+    ensures { HasGrown image.old image.new }
+{
+    let count = grow(alloc, plot, leaves)?.taken;
+    let oids = blocks(alloc, image, count)?;
+    grow(alloc, &plot.with(&oids), leaves)
 }
 
 /// A physical tree with its items in as few leaves as hold them: the root in its block, the other nodes in the first
@@ -39,10 +53,7 @@ pub(crate) fn put_physical(
         root: root as u64,
         oids: &[],
     };
-    let count = grow(alloc, &plot, &leaves)?.taken;
-    let oids = blocks(alloc, image, count)?;
-    let named = plot.with(&oids);
-    let grown = grow(alloc, &named, &leaves)?;
+    let grown = grow_named(alloc, image, &plot, &leaves)?;
     for node in grown.nodes.iter() {
         image.put(node.oid as usize, &node.bytes);
     }

@@ -1,8 +1,8 @@
 // The two free queues, which are ephemeral trees.
 ghost use Rattle.img_make.specs.Images.{HasGrown};
 
-use crate::laying::files::Ids;
-use crate::laying::image::Image;
+use crate::laying::files::{Ids, reach};
+use crate::laying::image::{Image, add};
 use crate::laying::trees::{Grown, Plot, grow};
 use crate::objects::checkpoint_map::Mapping;
 use apfs_layout::kind;
@@ -16,7 +16,7 @@ use std::alloc::{AllocError, Global};
 fn queue_leaves(alloc: Global, queued: &[QueueEntry]) -> Result<Vec<Leaf>, AllocError> {
     let mut records = Vec::new(alloc);
     for entry in queued.iter() {
-        records.push(queue_record(alloc, entry)?)?;
+        add(&mut records, queue_record(alloc, entry))?;
     }
     pack(alloc, records, 0)
 }
@@ -39,11 +39,8 @@ fn queue_tree(
     };
     let count = grow(alloc, &plot, leaves)?.taken;
     let mut oids = Vec::new(alloc);
-    for _ in 0..count {
-        oids.push(ids.take())?;
-    }
-    let named = plot.with(&oids);
-    grow(alloc, &named, leaves)
+    reach(&mut oids, count, ids)?;
+    grow(alloc, &plot.with(&oids), leaves)
 }
 
 // The nodes of a queue in the data area: the root in its block, the others from the first block that no other object

@@ -2,7 +2,7 @@
 ghost use Rattle.img_make.specs.Images.{HasGrown};
 
 use crate::laying::files::root_of;
-use crate::laying::image::Image;
+use crate::laying::image::{Image, add};
 use crate::laying::physical::put_physical;
 use crate::objects::volume::{Places, volume_superblock};
 use img_edit::node::Tree;
@@ -35,13 +35,13 @@ fn put_snapshot(
 {
     let superblock = image.place()?;
     let extents = image.place()?;
-    let mut then = *places;
-    then.xid = version.xid;
-    then.root = root_of(version, places.root);
-    then.extents = extents;
-    then.count = kept.in_map.len();
-    let bytes = volume_superblock(alloc, image.geometry, volume, &then)?;
-    image.put(superblock, &bytes);
+    let root = root_of(version, places.root);
+    let then = places.at(version.xid, root, extents, kept.in_map.len());
+    let geometry = image.geometry;
+    image.store(
+        superblock,
+        volume_superblock(alloc, geometry, volume, &then),
+    )?;
     put_physical(
         alloc,
         image,
@@ -67,11 +67,11 @@ impl Kept {
             None => &[],
         };
         if name.len() <= 1022 {
-            let record = snapshot_record(alloc, version.xid, extents, superblock, name)?;
-            self.metadata.push(record)?;
-            self.names.push(snapshot_name(alloc, version.xid, name)?)?;
+            let record = snapshot_record(alloc, version.xid, extents, superblock, name);
+            add(&mut self.metadata, record)?;
+            add(&mut self.names, snapshot_name(alloc, version.xid, name))?;
         }
-        self.in_map.push(map_snapshot(alloc, version.xid)?)?;
+        add(&mut self.in_map, map_snapshot(alloc, version.xid))?;
         self.latest = version.xid;
         Ok(())
     }

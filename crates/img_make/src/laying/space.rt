@@ -70,8 +70,8 @@ fn put_cibs(alloc: Global, image: &mut Image, xid: u64, chunks: &[Chunk]) -> Res
     for (index, group) in chunks.chunks(most).enumerate() {
         let block = POOL_BASE.saturating_add(index);
         let start = index.saturating_mul(most).saturating_mul(geometry.chunk());
-        let bytes = chunk_info(alloc, geometry, xid, Spot { block, index }, start, group)?;
-        image.put(block, &bytes);
+        let spot = Spot { block, index };
+        image.store(block, chunk_info(alloc, geometry, xid, spot, start, group))?;
     }
     Ok(())
 }
@@ -87,8 +87,11 @@ fn put_cabs(alloc: Global, image: &mut Image, xid: u64, pool: &PoolPlan) -> Resu
         let count = pool.cibs.saturating_sub(named).min(most);
         let block = pool.first_cab().saturating_add(index);
         let first = POOL_BASE.saturating_add(named);
-        let bytes = address_block(alloc, geometry, xid, Spot { block, index }, first, count)?;
-        image.put(block, &bytes);
+        let spot = Spot { block, index };
+        image.store(
+            block,
+            address_block(alloc, geometry, xid, spot, first, count),
+        )?;
     }
     Ok(())
 }
@@ -131,13 +134,10 @@ pub(crate) fn put_space(
         pool,
         queued,
     };
-    let manager = space_manager(alloc, geometry, &space)?;
-    image.put(SPACE_MANAGER, &manager);
+    image.store(SPACE_MANAGER, space_manager(alloc, geometry, &space))?;
     put_cibs(alloc, image, xid, &chunks)?;
     put_bitmaps(alloc, image, &chunks)?;
     put_cabs(alloc, image, xid, &pool)?;
     let in_pool = vec![in alloc; true; pool.in_use()]?;
-    let ring = bitmap(alloc, geometry, &in_pool)?;
-    image.put(RING_BASE, &ring);
-    Ok(())
+    image.store(RING_BASE, bitmap(alloc, geometry, &in_pool))
 }

@@ -1,5 +1,6 @@
 // Trees of nodes, built from the leaves up.
 use crate::geometry::Geometry;
+use crate::laying::image::add;
 use img_edit::node::{NodeHead, Totals, Tree, node};
 use img_plan::records::child;
 use img_plan::{Item, Leaf, pack};
@@ -73,6 +74,23 @@ impl Grown {
         self.taken = self.taken.saturating_add(1);
         next
     }
+
+    // One node more, with its items. A valid plan has no leaf without room.
+    fn add(
+        &mut self,
+        alloc: Global,
+        plot: &Plot<'_>,
+        head: &NodeHead,
+        items: &[Item],
+    ) -> Result<(), AllocError> {
+        let made = node(alloc, plot.geometry.size, &plot.tree, head, items)?;
+        self.nodes.push(Node {
+            oid: head.oid,
+            xid: head.xid,
+            bytes: made.ok_or(AllocError)?,
+        })?;
+        Ok(())
+    }
 }
 
 // The key by which the level above names a node.
@@ -81,16 +99,6 @@ fn first_key(part: &Leaf) -> &[u8] {
         Some(item) => &item.0,
         None => &[],
     }
-}
-
-// A node with its items. A valid plan has no leaf without room.
-fn node_of(
-    alloc: Global,
-    plot: &Plot<'_>,
-    head: &NodeHead,
-    items: &[Item],
-) -> Result<Vec<u8>, AllocError> {
-    node(alloc, plot.geometry.size, &plot.tree, head, items)?.ok_or(AllocError)
 }
 
 // The nodes of one level below the root; the items by which the level above names them.
@@ -104,16 +112,14 @@ fn grow_level(
     let mut children = Vec::new(alloc);
     for part in parts.iter() {
         let oid = grown.id_of(plot, part.oid);
-        let xid = plot.xid;
         let head = NodeHead {
             oid,
-            xid,
+            xid: plot.xid,
             level,
             totals: None,
         };
-        let bytes = node_of(alloc, plot, &head, &part.items)?;
-        grown.nodes.push(Node { oid, xid, bytes })?;
-        children.push(child(alloc, first_key(part), oid)?)?;
+        grown.add(alloc, plot, &head, &part.items)?;
+        add(&mut children, child(alloc, first_key(part), oid))?;
     }
     Ok(children)
 }
@@ -150,17 +156,13 @@ fn grow_root(
     items: &[Item],
     grown: &mut Grown,
 ) -> Result<(), AllocError> {
-    let oid = plot.root;
-    let xid = plot.xid;
     let head = NodeHead {
-        oid,
-        xid,
+        oid: plot.root,
+        xid: plot.xid,
         level,
         totals: Some(totals),
     };
-    let bytes = node_of(alloc, plot, &head, items)?;
-    grown.nodes.push(Node { oid, xid, bytes })?;
-    Ok(())
+    grown.add(alloc, plot, &head, items)
 }
 
 // The leaves, and the levels above them, the root last.
@@ -190,10 +192,11 @@ pub(crate) fn grow(alloc: Global, plot: &Plot<'_>, leaves: &[Leaf]) -> Result<Gr
         taken: 0,
     };
     let totals = totals_of(leaves);
-    match leaves {
-        [] => grow_root(alloc, plot, 0, totals, &[], &mut grown)?,
-        [only] => grow_root(alloc, plot, 0, totals, &only.items, &mut grown)?,
-        _ => grow_levels(alloc, plot, leaves, &mut grown)?,
-    }
+    let done = match leaves {
+        [] => grow_root(alloc, plot, 0, totals, &[], &mut grown),
+        [only] => grow_root(alloc, plot, 0, totals, &only.items, &mut grown),
+        _ => grow_levels(alloc, plot, leaves, &mut grown),
+    };
+    done?;
     Ok(grown)
 }

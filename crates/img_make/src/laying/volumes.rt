@@ -1,11 +1,11 @@
 // The objects of a volume, put into an image one after another.
 ghost use Rattle.img_make.specs.Images.{HasGrown};
 
-use crate::laying::files::{Ids, Placed, put_files, root_of};
-use crate::laying::image::Image;
+use crate::laying::files::{Ids, put_files, root_of};
+use crate::laying::image::{Image, add};
 use crate::laying::physical::put_physical;
 use crate::laying::snapshots::{Kept, put_snapshots};
-use crate::objects::object_map::{MapPlan, object_map};
+use crate::objects::object_map::{MapPlan, Placed, object_map};
 use crate::objects::volume::{Places, volume_superblock};
 use apfs_layout::key::KIND_UNIT;
 use img_edit::node::Tree;
@@ -29,13 +29,17 @@ struct Blocks {
 fn six(image: &mut Image) -> Result<Blocks, AllocError>
     ensures { HasGrown image.old image.new }
 {
+    let mut six = [0usize; 6];
+    for i in 0..6 {
+        six[i] = image.place()?;
+    }
     Ok(Blocks {
-        superblock: image.place()?,
-        map: image.place()?,
-        map_root: image.place()?,
-        root: image.place()?,
-        extents: image.place()?,
-        snapshots: image.place()?,
+        superblock: six[0],
+        map: six[1],
+        map_root: six[2],
+        root: six[3],
+        extents: six[4],
+        snapshots: six[5],
     })
 }
 
@@ -54,13 +58,17 @@ fn next_id(volume: &VolPlan) -> u64 {
     next
 }
 
-// The records by which the volume's object map finds its nodes.
-fn map_records(alloc: Global, image: &Image, placed: &[Placed]) -> Result<Vec<Item>, AllocError> {
+/// The records by which an object map finds objects of one block.
+pub(crate) fn map_records(
+    alloc: Global,
+    image: &Image,
+    placed: &[Placed],
+) -> Result<Vec<Item>, AllocError> {
     let size = image.geometry.size as u32;
     let mut records = Vec::new(alloc);
     for node in placed.iter() {
-        let record = map_record(alloc, node.oid, node.xid, size, node.block as u64)?;
-        records.push(record)?;
+        let record = map_record(alloc, node.oid, node.xid, size, node.block as u64);
+        add(&mut records, record)?;
     }
     Ok(records)
 }
@@ -69,7 +77,7 @@ fn map_records(alloc: Global, image: &Image, placed: &[Placed]) -> Result<Vec<It
 fn range_records(alloc: Global, ranges: &[NewRange]) -> Result<Vec<Item>, AllocError> {
     let mut records = Vec::new(alloc);
     for range in ranges.iter() {
-        records.push(range_record(alloc, range)?)?;
+        add(&mut records, range_record(alloc, range))?;
     }
     Ok(records)
 }
@@ -80,16 +88,13 @@ fn put_metadata(
     image: &mut Image,
     root: usize,
     xid: u64,
-    metadata: Vec<Item>,
-    names: Vec<Item>,
+    mut metadata: Vec<Item>,
+    mut names: Vec<Item>,
 ) -> Result<(), AllocError>
     ensures { HasGrown image.old image.new }
 {
-    let mut records = metadata;
-    for name in names {
-        records.push(name)?;
-    }
-    put_physical(alloc, image, &Tree::SNAPSHOTS, root, xid, records)
+    metadata.append(&mut names)?;
+    put_physical(alloc, image, &Tree::SNAPSHOTS, root, xid, metadata)
 }
 
 // The object map, and where it has snapshots their tree in the first free block.
@@ -118,9 +123,8 @@ fn put_map(
         snapshots,
         latest,
     };
-    let bytes = object_map(alloc, image.geometry, &plan)?;
-    image.put(blocks.map, &bytes);
-    Ok(())
+    let geometry = image.geometry;
+    image.store(blocks.map, object_map(alloc, geometry, &plan))
 }
 
 // The contents of the volume's files.
@@ -188,7 +192,7 @@ pub(crate) fn put_volume(
         Some(version) => version.xid,
         None => xid,
     };
-    let mut places = Places {
+    let places = Places {
         slot,
         oid,
         xid: made,
@@ -200,12 +204,17 @@ pub(crate) fn put_volume(
         count: 0,
         next_id: next_id(volume),
     };
-    places.count = put_trees(alloc, image, volume, &blocks, &places, xid, ids)?;
-    if let Some(live) = volume.versions.last() {
-        places.root = root_of(live, root);
-    }
-    let bytes = volume_superblock(alloc, image.geometry, volume, &places)?;
-    image.put(blocks.superblock, &bytes);
+    let count = put_trees(alloc, image, volume, &blocks, &places, xid, ids)?;
+    let live = match volume.versions.last() {
+        Some(version) => root_of(version, root),
+        None => root,
+    };
+    let places = places.at(made, live, blocks.extents, count);
+    let geometry = image.geometry;
+    image.store(
+        blocks.superblock,
+        volume_superblock(alloc, geometry, volume, &places),
+    )?;
     put_contents(image, volume);
     Ok(Placed {
         oid,

@@ -2,6 +2,7 @@
 ghost use Rattle.std.specs.Prelude.{◌≡◌, ◌≤◌, length, IfOk, vec_len};
 
 use crate::geometry::Geometry;
+use crate::objects::fields::{Field, put_fields};
 use apfs_layout::checkpoint_map::{
     COUNT, FLAGS, LAST_MAP, MAPPING_LEN, MAPPING_OID, MAPPING_PADDR, MAPPING_SIZE, MAPPING_SUBTYPE,
     MAPPING_TYPE, MAPPINGS,
@@ -9,7 +10,7 @@ use apfs_layout::checkpoint_map::{
 use apfs_layout::kind;
 use img_edit::header::{EPHEMERAL, Head, block_with, type_of};
 use img_edit::places::CHECKPOINT_MAP;
-use img_edit::{put_u32, put_u64, reseal};
+use img_edit::reseal;
 use std::alloc::{AllocError, Global};
 
 /// An ephemeral object of one block, which the map finds.
@@ -22,14 +23,15 @@ pub(crate) struct Mapping {
 }
 
 // A mapping in the bytes that are its own.
-fn put_mapping(part: &mut [u8], geometry: Geometry, mapping: &Mapping)
-    requires { length part.old ≡ 40 }
-{
-    put_u32(part, MAPPING_TYPE, type_of(EPHEMERAL, mapping.kind));
-    put_u32(part, MAPPING_SUBTYPE, u32::from(mapping.subtype));
-    put_u32(part, MAPPING_SIZE, geometry.size as u32);
-    put_u64(part, MAPPING_OID, mapping.oid);
-    put_u64(part, MAPPING_PADDR, mapping.block as u64);
+fn put_mapping(part: &mut [u8], geometry: Geometry, mapping: &Mapping) {
+    let fields = [
+        Field::U32(MAPPING_TYPE, type_of(EPHEMERAL, mapping.kind)),
+        Field::U32(MAPPING_SUBTYPE, u32::from(mapping.subtype)),
+        Field::U32(MAPPING_SIZE, geometry.size as u32),
+        Field::U64(MAPPING_OID, mapping.oid),
+        Field::U64(MAPPING_PADDR, mapping.block as u64),
+    ];
+    put_fields(part, &fields);
 }
 
 // The mappings, those that the block has room for.
@@ -51,8 +53,11 @@ pub(crate) fn checkpoint_map(
 ) -> Result<Vec<u8>, AllocError> {
     let head = Head::physical(CHECKPOINT_MAP, xid, kind::CHECKPOINT_MAP);
     let mut block = block_with(alloc, geometry.size, &head)?;
-    put_u32(&mut block, FLAGS, LAST_MAP);
-    put_u32(&mut block, COUNT, (mappings.len() % 0x1_0000_0000) as u32);
+    let fields = [
+        Field::U32(FLAGS, LAST_MAP),
+        Field::U32(COUNT, (mappings.len() % 0x1_0000_0000) as u32),
+    ];
+    put_fields(&mut block, &fields);
     put_mappings(&mut block, geometry, mappings);
     reseal(&mut block);
     Ok(block)

@@ -3,13 +3,14 @@
 ghost use Rattle.std.specs.Prelude.{◌≡◌, ◌≤◌, length};
 
 use crate::geometry::Geometry;
+use crate::objects::fields::{Field, put_fields};
 use apfs_layout::chunk_info::{
     ADDRESS_LEN, CAB_ADDRESSES, CAB_COUNT, CAB_INDEX, CHUNK_ADDRESS, CHUNK_BITMAP, CHUNK_BLOCKS,
     CHUNK_FREE, CHUNK_XID, CIB_COUNT, CIB_ENTRIES, CIB_INDEX, ENTRY_LEN,
 };
 use apfs_layout::kind;
 use img_edit::header::{Head, block_with};
-use img_edit::{put_u32, put_u64, reseal};
+use img_edit::{put_u64, reseal};
 use std::alloc::{AllocError, Global};
 
 /// A chunk of blocks.
@@ -22,14 +23,15 @@ pub(crate) struct Chunk {
 }
 
 // The entry of the chunk that starts at a block, in the bytes that are its own.
-fn put_chunk(part: &mut [u8], first: usize, chunk: &Chunk, xid: u64)
-    requires { length part.old ≡ 32 }
-{
-    put_u64(part, CHUNK_XID, xid);
-    put_u64(part, CHUNK_ADDRESS, first as u64);
-    put_u32(part, CHUNK_BLOCKS, (chunk.blocks % 0x1_0000_0000) as u32);
-    put_u32(part, CHUNK_FREE, (chunk.free % 0x1_0000_0000) as u32);
-    put_u64(part, CHUNK_BITMAP, chunk.bitmap as u64);
+fn put_chunk(part: &mut [u8], first: usize, chunk: &Chunk, xid: u64) {
+    let fields = [
+        Field::U64(CHUNK_XID, xid),
+        Field::U64(CHUNK_ADDRESS, first as u64),
+        Field::U32(CHUNK_BLOCKS, (chunk.blocks % 0x1_0000_0000) as u32),
+        Field::U32(CHUNK_FREE, (chunk.free % 0x1_0000_0000) as u32),
+        Field::U64(CHUNK_BITMAP, chunk.bitmap as u64),
+    ];
+    put_fields(part, &fields);
 }
 
 // The entries of the chunks from a block on, those that the chunk-info block has room for.
@@ -62,8 +64,11 @@ pub(crate) fn chunk_info(
 ) -> Result<Vec<u8>, AllocError> {
     let head = Head::physical(spot.block, xid, kind::CHUNK_INFO);
     let mut block = block_with(alloc, geometry.size, &head)?;
-    put_u32(&mut block, CIB_INDEX, (spot.index % 0x1_0000_0000) as u32);
-    put_u32(&mut block, CIB_COUNT, (chunks.len() % 0x1_0000_0000) as u32);
+    let fields = [
+        Field::U32(CIB_INDEX, (spot.index % 0x1_0000_0000) as u32),
+        Field::U32(CIB_COUNT, (chunks.len() % 0x1_0000_0000) as u32),
+    ];
+    put_fields(&mut block, &fields);
     put_chunks(&mut block, start, chunks, xid);
     reseal(&mut block);
     Ok(block)
@@ -87,8 +92,11 @@ pub(crate) fn address_block(
 ) -> Result<Vec<u8>, AllocError> {
     let head = Head::physical(spot.block, xid, kind::CHUNK_ADDRESSES);
     let mut block = block_with(alloc, geometry.size, &head)?;
-    put_u32(&mut block, CAB_INDEX, (spot.index % 0x1_0000_0000) as u32);
-    put_u32(&mut block, CAB_COUNT, (count % 0x1_0000_0000) as u32);
+    let fields = [
+        Field::U32(CAB_INDEX, (spot.index % 0x1_0000_0000) as u32),
+        Field::U32(CAB_COUNT, (count % 0x1_0000_0000) as u32),
+    ];
+    put_fields(&mut block, &fields);
     put_addresses(&mut block[CAB_ADDRESSES..], first, count);
     reseal(&mut block);
     Ok(block)

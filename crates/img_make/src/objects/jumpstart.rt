@@ -2,10 +2,11 @@
 ghost use Rattle.std.specs.Prelude.{◌≡◌, ◌≤◌, length};
 
 use crate::geometry::Geometry;
+use crate::objects::fields::{Field, put_fields};
 use apfs_layout::jumpstart::{COUNT, DRIVER_LEN, EXTENT_LEN, EXTENTS, JUMP_MAGIC, MAGIC, VERSION};
 use apfs_layout::kind;
 use img_edit::header::{Head, block_with};
-use img_edit::{put_u32, put_u64, reseal};
+use img_edit::reseal;
 use std::alloc::{AllocError, Global};
 
 // The only version.
@@ -26,8 +27,7 @@ fn put_extents(block: &mut [u8], extents: &[(u64, u64)])
 {
     let parts = block[EXTENTS..].chunks_exact_mut(EXTENT_LEN);
     for (part, (first, length)) in parts.zip(extents.iter()) {
-        put_u64(part, 0, *first);
-        put_u64(part, 8, *length);
+        put_fields(part, &[Field::U64(0, *first), Field::U64(8, *length)]);
     }
 }
 
@@ -41,10 +41,13 @@ pub(crate) fn jumpstart(
 ) -> Result<Vec<u8>, AllocError> {
     let head = Head::physical(at, xid, kind::JUMPSTART);
     let mut block = block_with(alloc, geometry.size, &head)?;
-    put_u32(&mut block, MAGIC, JUMP_MAGIC);
-    put_u32(&mut block, VERSION, VERSION_1);
-    put_u32(&mut block, DRIVER_LEN, driver_len(geometry, extents));
-    put_u32(&mut block, COUNT, (extents.len() % 0x1_0000_0000) as u32);
+    let fields = [
+        Field::U32(MAGIC, JUMP_MAGIC),
+        Field::U32(VERSION, VERSION_1),
+        Field::U32(DRIVER_LEN, driver_len(geometry, extents)),
+        Field::U32(COUNT, (extents.len() % 0x1_0000_0000) as u32),
+    ];
+    put_fields(&mut block, &fields);
     put_extents(&mut block, extents);
     reseal(&mut block);
     Ok(block)

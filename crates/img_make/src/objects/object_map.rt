@@ -1,12 +1,21 @@
 // Object maps (Object Maps, omap_phys_t).
 use crate::geometry::Geometry;
+use crate::objects::fields::{Field, put_fields};
 use apfs_layout::kind;
 use apfs_layout::object_map::{
     FLAGS, LATEST_SNAP, MANUALLY_MANAGED, SNAP_COUNT, SNAP_TREE, SNAP_TREE_TYPE, TREE, TREE_TYPE,
 };
 use img_edit::header::{Head, PHYSICAL, block_with, type_of};
-use img_edit::{put_u32, put_u64, reseal};
+use img_edit::reseal;
 use std::alloc::{AllocError, Global};
+
+/// A record of an object map: an object of a transaction, in a block.
+#[derive(Clone, Copy)]
+pub(crate) struct Placed {
+    pub oid: u64,
+    pub xid: u64,
+    pub block: usize,
+}
 
 /// An object map, but for its trees' contents.
 #[derive(Clone, Copy)]
@@ -38,17 +47,16 @@ pub(crate) fn object_map(
     } else {
         0
     };
-    put_u32(&mut map, FLAGS, flags);
-    put_u32(
-        &mut map,
-        SNAP_COUNT,
-        (plan.snapshots % 0x1_0000_0000) as u32,
-    );
-    put_u32(&mut map, TREE_TYPE, type_of(PHYSICAL, kind::TREE_ROOT));
-    put_u32(&mut map, SNAP_TREE_TYPE, type_of(PHYSICAL, kind::TREE_ROOT));
-    put_u64(&mut map, TREE, plan.tree as u64);
-    put_u64(&mut map, SNAP_TREE, plan.snap_tree as u64);
-    put_u64(&mut map, LATEST_SNAP, plan.latest);
+    let fields = [
+        Field::U32(FLAGS, flags),
+        Field::U32(SNAP_COUNT, (plan.snapshots % 0x1_0000_0000) as u32),
+        Field::U32(TREE_TYPE, type_of(PHYSICAL, kind::TREE_ROOT)),
+        Field::U32(SNAP_TREE_TYPE, type_of(PHYSICAL, kind::TREE_ROOT)),
+        Field::U64(TREE, plan.tree as u64),
+        Field::U64(SNAP_TREE, plan.snap_tree as u64),
+        Field::U64(LATEST_SNAP, plan.latest),
+    ];
+    put_fields(&mut map, &fields);
     reseal(&mut map);
     Ok(map)
 }

@@ -3,6 +3,7 @@ ghost use Rattle.std.specs.Prelude.{◌≡◌, ◌≤◌, length};
 
 use super::chunk_info::put_addresses;
 use crate::geometry::Geometry;
+use crate::objects::fields::{Field, put_fields};
 use apfs_layout::kind;
 use apfs_layout::space_manager::{
     BLOCK_SIZE, BLOCKS_PER_CHUNK, CHUNKS_PER_CIB, CIBS_PER_CAB, MAIN_ADDRESSES, MAIN_BLOCKS,
@@ -12,7 +13,7 @@ use apfs_layout::space_manager::{
     RING_FREE_TAIL, RING_INDEXES, RING_XIDS, SECOND_ADDRESSES,
 };
 use img_edit::header::{Head, block_with};
-use img_edit::{places, put_u16, put_u32, put_u64, reseal};
+use img_edit::{places, put_u16, put_u32, reseal};
 use img_plan::QueueEntry;
 use std::alloc::{AllocError, Global};
 
@@ -85,19 +86,20 @@ fn narrow(number: usize) -> u32 {
 }
 
 // The sizes of a chunk and of its kin, and the main device.
-fn put_device(block: &mut [u8], geometry: Geometry, space: &Space<'_>)
-    requires { 4096 ≤ length block.old }
-{
-    put_u32(block, BLOCK_SIZE, geometry.size as u32);
-    put_u32(block, BLOCKS_PER_CHUNK, geometry.chunk() as u32);
-    put_u32(block, CHUNKS_PER_CIB, narrow(geometry.chunks_per_cib));
-    put_u32(block, CIBS_PER_CAB, narrow(geometry.cibs_per_cab));
-    put_u64(block, MAIN_BLOCKS, space.blocks as u64);
-    put_u64(block, MAIN_CHUNKS, space.pool.chunks as u64);
-    put_u32(block, MAIN_CIBS, narrow(space.pool.cibs));
-    put_u32(block, MAIN_CABS, narrow(space.pool.cabs));
-    put_u64(block, MAIN_FREE, space.free as u64);
-    put_u32(block, SECOND_ADDRESSES, NO_ADDRESSES as u32);
+fn put_device(block: &mut [u8], geometry: Geometry, space: &Space<'_>) {
+    let fields = [
+        Field::U32(BLOCK_SIZE, geometry.size as u32),
+        Field::U32(BLOCKS_PER_CHUNK, geometry.chunk() as u32),
+        Field::U32(CHUNKS_PER_CIB, narrow(geometry.chunks_per_cib)),
+        Field::U32(CIBS_PER_CAB, narrow(geometry.cibs_per_cab)),
+        Field::U64(MAIN_BLOCKS, space.blocks as u64),
+        Field::U64(MAIN_CHUNKS, space.pool.chunks as u64),
+        Field::U32(MAIN_CIBS, narrow(space.pool.cibs)),
+        Field::U32(MAIN_CABS, narrow(space.pool.cabs)),
+        Field::U64(MAIN_FREE, space.free as u64),
+        Field::U32(SECOND_ADDRESSES, NO_ADDRESSES as u32),
+    ];
+    put_fields(block, &fields);
 }
 
 // The addresses of the blocks that lead to the chunks.
@@ -111,50 +113,57 @@ fn put_names(block: &mut [u8], pool: &PoolPlan)
 }
 
 // The pool with its ring.
-fn put_pool(block: &mut [u8], space: &Space<'_>)
-    requires { 4096 ≤ length block.old }
-{
-    put_u32(block, RING_BITMAPS, places::RING_BLOCKS);
-    put_u64(block, POOL_BLOCKS, space.pool_blocks as u64);
-    put_u32(block, POOL_BITMAP_SIZE, 1);
-    put_u32(block, RING_BLOCKS, places::RING_BLOCKS);
-    put_u64(block, RING_BASE, places::RING_BASE as u64);
-    put_u64(block, POOL_BASE, places::POOL_BASE as u64);
+fn put_pool(block: &mut [u8], space: &Space<'_>) {
+    let fields = [
+        Field::U32(RING_BITMAPS, places::RING_BLOCKS),
+        Field::U64(POOL_BLOCKS, space.pool_blocks as u64),
+        Field::U32(POOL_BITMAP_SIZE, 1),
+        Field::U32(RING_BLOCKS, places::RING_BLOCKS),
+        Field::U64(RING_BASE, places::RING_BASE as u64),
+        Field::U64(POOL_BASE, places::POOL_BASE as u64),
+    ];
+    put_fields(block, &fields);
 }
 
 // The free queues: their trees, and what the main one holds.
-fn put_queues(block: &mut [u8], queued: &[QueueEntry])
-    requires { 4096 ≤ length block.old }
-{
-    put_u64(block, POOL_QUEUE_TREE, places::POOL_QUEUE_OID);
-    put_u16(block, POOL_QUEUE_LIMIT, 1);
-    put_u64(block, MAIN_QUEUE_TREE, places::MAIN_QUEUE_OID);
-    put_u16(block, MAIN_QUEUE_LIMIT, 8);
+fn put_queues(block: &mut [u8], queued: &[QueueEntry]) {
     let mut count = 0u64;
     for entry in queued.iter() {
         count = count.saturating_add(entry.length);
     }
-    put_u64(block, MAIN_QUEUE_COUNT, count);
-    if let Some(oldest) = queued.first() {
-        put_u64(block, MAIN_QUEUE_OLDEST, oldest.xid);
-    }
+    let oldest = match queued.first() {
+        Some(entry) => entry.xid,
+        None => 0,
+    };
+    let fields = [
+        Field::U64(POOL_QUEUE_TREE, places::POOL_QUEUE_OID),
+        Field::U16(POOL_QUEUE_LIMIT, 1),
+        Field::U64(MAIN_QUEUE_TREE, places::MAIN_QUEUE_OID),
+        Field::U16(MAIN_QUEUE_LIMIT, 8),
+        Field::U64(MAIN_QUEUE_COUNT, count),
+        Field::U64(MAIN_QUEUE_OLDEST, oldest),
+    ];
+    put_fields(block, &fields);
 }
 
 // The ring of the pool's bitmaps: its first block is the current one, the others are free and follow one another.
 fn put_ring(block: &mut [u8], xid: u64)
     requires { 4096 ≤ length block.old }
 {
-    put_u16(block, RING_FREE_HEAD, 1);
-    put_u16(block, RING_FREE_TAIL, 15);
-    put_u32(block, RING_XIDS, RING_XID as u32);
-    put_u32(block, RING_INDEXES, RING_INDEX as u32);
-    put_u32(block, RING_FREE_NEXT, RING_NEXT as u32);
-    put_u64(block, RING_XID, xid);
-    put_u16(block, RING_NEXT, NO_INDEX);
+    let fields = [
+        Field::U16(RING_FREE_HEAD, 1),
+        Field::U16(RING_FREE_TAIL, 15),
+        Field::U32(RING_XIDS, RING_XID as u32),
+        Field::U32(RING_INDEXES, RING_INDEX as u32),
+        Field::U32(RING_FREE_NEXT, RING_NEXT as u32),
+        Field::U64(RING_XID, xid),
+        Field::U16(RING_NEXT, NO_INDEX),
+        Field::U16(RING_NEXT + 30, NO_INDEX),
+    ];
+    put_fields(block, &fields);
     for i in 1..15usize {
         put_u16(block, RING_NEXT + 2 * i, (i + 1) as u16);
     }
-    put_u16(block, RING_NEXT + 30, NO_INDEX);
 }
 
 /// The space manager.

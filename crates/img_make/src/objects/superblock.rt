@@ -2,6 +2,8 @@
 ghost use Rattle.std.specs.Prelude.{◌≡◌, ◌≤◌, length};
 
 use crate::geometry::Geometry;
+use crate::objects::fields::{Field, put_fields};
+use crate::objects::object_map::Placed;
 use apfs_layout::container::{
     BLOCK_COUNT, BLOCK_SIZE, DATA_BASE, DATA_BLOCKS, DATA_LEN, DATA_NEXT, DESC_BASE, DESC_BLOCKS,
     DESC_LEN, DESC_NEXT, EPHEMERAL_INFO, FS_OID, INCOMPAT, JUMPSTART, MAGIC, MAX_FILE_SYSTEMS,
@@ -9,7 +11,7 @@ use apfs_layout::container::{
 };
 use apfs_layout::kind;
 use img_edit::header::{Head, block_with};
-use img_edit::{places, put_bytes, put_u32, put_u64, reseal};
+use img_edit::{places, put_bytes, put_u64, reseal};
 use std::alloc::{AllocError, Global};
 
 // A minimum of 8 blocks of checkpoint data and 4 ephemeral objects a volume, in version 1 of this field.
@@ -33,8 +35,8 @@ pub(crate) struct Container<'a> {
     pub data_len: usize,
     /// The block of the jumpstart, 0 where there is none.
     pub jumpstart: u64,
-    /// The oids of the volumes by slot.
-    pub volumes: &'a [u64],
+    /// The volumes by slot.
+    pub volumes: &'a [Placed],
 }
 
 // How many volumes the container may have.
@@ -47,33 +49,54 @@ fn most_volumes(geometry: Geometry, container: &Container<'_>) -> u32 {
 }
 
 // The descriptor area and the data area, of which the first blocks are in use.
-fn put_areas(block: &mut [u8], data_len: usize)
-    requires { 4096 ≤ length block.old }
-{
+fn put_areas(block: &mut [u8], data_len: usize) {
     let used = (data_len % 0x1_0000_0000) as u32;
-    put_u32(block, DESC_BLOCKS, places::DESC_BLOCKS);
-    put_u32(block, DATA_BLOCKS, places::DATA_BLOCKS);
-    put_u64(block, DESC_BASE, places::DESC_BASE);
-    put_u64(block, DATA_BASE, places::DATA_BASE);
-    put_u32(block, DESC_NEXT, 2);
-    put_u32(block, DATA_NEXT, used);
-    put_u32(block, DESC_LEN, 2);
-    put_u32(block, DATA_LEN, used);
+    let fields = [
+        Field::U32(DESC_BLOCKS, places::DESC_BLOCKS),
+        Field::U32(DATA_BLOCKS, places::DATA_BLOCKS),
+        Field::U64(DESC_BASE, places::DESC_BASE),
+        Field::U64(DATA_BASE, places::DATA_BASE),
+        Field::U32(DESC_NEXT, 2),
+        Field::U32(DATA_NEXT, used),
+        Field::U32(DESC_LEN, 2),
+        Field::U32(DATA_LEN, used),
+    ];
+    put_fields(block, &fields);
 }
 
-// The objects that the superblock names.
-fn put_names(block: &mut [u8], container: &Container<'_>)
+// The volumes that the superblock names.
+fn put_volumes(block: &mut [u8], volumes: &[Placed])
     requires { 4096 ≤ length block.old }
 {
-    put_u64(block, SPACE_OID, places::SPACE_OID);
-    put_u64(block, OMAP_OID, places::CONTAINER_MAP as u64);
-    put_u64(block, REAPER_OID, places::REAPER_OID);
-    put_u64(block, JUMPSTART, container.jumpstart);
-    for (slot, oid) in container.volumes.iter().enumerate() {
+    for (slot, volume) in volumes.iter().enumerate() {
         if slot < SLOTS {
-            put_u64(block, FS_OID + 8 * slot, *oid);
+            put_u64(block, FS_OID + 8 * slot, volume.oid);
         }
     }
+}
+
+// What the superblock says after its header.
+fn put_container(block: &mut [u8], geometry: Geometry, container: &Container<'_>)
+    requires { 4096 ≤ length block.old }
+{
+    let fields = [
+        Field::U32(MAGIC, NX_MAGIC),
+        Field::U32(BLOCK_SIZE, geometry.size as u32),
+        Field::U64(BLOCK_COUNT, container.blocks),
+        Field::U64(INCOMPAT, VERSION_2),
+        Field::U64(NEXT_OID, container.next_oid),
+        Field::U64(NEXT_XID, container.xid.saturating_add(1)),
+        Field::U64(SPACE_OID, places::SPACE_OID),
+        Field::U64(OMAP_OID, places::CONTAINER_MAP as u64),
+        Field::U64(REAPER_OID, places::REAPER_OID),
+        Field::U64(JUMPSTART, container.jumpstart),
+        Field::U32(MAX_FILE_SYSTEMS, most_volumes(geometry, container)),
+        Field::U64(EPHEMERAL_INFO, EPHEMERAL_VERSION_1),
+    ];
+    put_fields(block, &fields);
+    put_areas(block, container.data_len);
+    put_bytes(block, UUID, &CONTAINER_UUID);
+    put_volumes(block, container.volumes);
 }
 
 /// The container superblock.
@@ -84,21 +107,7 @@ pub(crate) fn superblock(
 ) -> Result<Vec<u8>, AllocError> {
     let head = Head::ephemeral(NX_OID, container.xid, kind::CONTAINER);
     let mut block = block_with(alloc, geometry.size, &head)?;
-    put_u32(&mut block, MAGIC, NX_MAGIC);
-    put_u32(&mut block, BLOCK_SIZE, geometry.size as u32);
-    put_u64(&mut block, BLOCK_COUNT, container.blocks);
-    put_u64(&mut block, INCOMPAT, VERSION_2);
-    put_bytes(&mut block, UUID, &CONTAINER_UUID);
-    put_u64(&mut block, NEXT_OID, container.next_oid);
-    put_u64(&mut block, NEXT_XID, container.xid.saturating_add(1));
-    put_areas(&mut block, container.data_len);
-    put_names(&mut block, container);
-    put_u32(
-        &mut block,
-        MAX_FILE_SYSTEMS,
-        most_volumes(geometry, container),
-    );
-    put_u64(&mut block, EPHEMERAL_INFO, EPHEMERAL_VERSION_1);
+    put_container(&mut block, geometry, container);
     reseal(&mut block);
     Ok(block)
 }

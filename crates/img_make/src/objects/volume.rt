@@ -2,6 +2,7 @@
 ghost use Rattle.std.specs.Prelude.{◌≡◌, ◌≤◌, length};
 
 use crate::geometry::Geometry;
+use crate::objects::fields::{Field, put_fields};
 use apfs_layout::kind;
 use apfs_layout::volume::{
     CASE_INSENSITIVE, CRYPTO_CLASS, CRYPTO_REVISION, CRYPTO_VERSION, EXTENTS_ROOT, EXTENTS_TYPE,
@@ -11,7 +12,7 @@ use apfs_layout::volume::{
 };
 use fs_name::Names;
 use img_edit::header::{Head, PHYSICAL, VIRTUAL, block_with, type_of};
-use img_edit::{put_bytes, put_u16, put_u32, put_u64, reseal};
+use img_edit::{put_bytes, reseal};
 use img_plan::VolPlan;
 use std::alloc::{AllocError, Global};
 
@@ -48,6 +49,19 @@ pub(crate) struct Places {
     pub next_id: u64,
 }
 
+impl Places {
+    /// The same at a transaction, with these roots of its files and its extent references, and so many snapshots.
+    pub(crate) fn at(self, xid: u64, root: u64, extents: usize, count: usize) -> Places {
+        Places {
+            xid,
+            root,
+            extents,
+            count,
+            ..self
+        }
+    }
+}
+
 // The volume's features by its names.
 fn features_of(names: Names) -> u64 {
     match names {
@@ -57,34 +71,40 @@ fn features_of(names: Names) -> u64 {
     }
 }
 
-// The volume's trees.
-fn put_trees(block: &mut [u8], places: &Places)
-    requires { 4096 ≤ length block.old }
-{
-    put_u32(block, ROOT_TYPE, type_of(VIRTUAL, kind::TREE_ROOT));
-    put_u32(block, EXTENTS_TYPE, type_of(PHYSICAL, kind::TREE_ROOT));
-    put_u32(block, SNAPS_TYPE, type_of(PHYSICAL, kind::TREE_ROOT));
-    put_u64(block, OMAP_OID, places.map as u64);
-    put_u64(block, ROOT_OID, places.root);
-    put_u64(block, EXTENTS_ROOT, places.extents as u64);
-    put_u64(block, SNAPS_ROOT, places.snapshots as u64);
-    put_u64(block, SNAPSHOTS, places.count as u64);
-    put_u64(block, NEXT_ID, places.next_id.max(FIRST_ID));
-    put_u64(block, FORMATTED_BY_XID, places.made);
-    put_u32(block, NEXT_DOCUMENT, FIRST_DOCUMENT);
+// The volume's slot and its trees.
+fn put_trees(block: &mut [u8], places: &Places) {
+    let fields = [
+        Field::U32(MAGIC, VOLUME_MAGIC),
+        Field::U32(SLOT, (places.slot % 0x1_0000_0000) as u32),
+        Field::U32(ROOT_TYPE, type_of(VIRTUAL, kind::TREE_ROOT)),
+        Field::U32(EXTENTS_TYPE, type_of(PHYSICAL, kind::TREE_ROOT)),
+        Field::U32(SNAPS_TYPE, type_of(PHYSICAL, kind::TREE_ROOT)),
+        Field::U64(OMAP_OID, places.map as u64),
+        Field::U64(ROOT_OID, places.root),
+        Field::U64(EXTENTS_ROOT, places.extents as u64),
+        Field::U64(SNAPS_ROOT, places.snapshots as u64),
+        Field::U64(SNAPSHOTS, places.count as u64),
+        Field::U64(NEXT_ID, places.next_id.max(FIRST_ID)),
+        Field::U64(FORMATTED_BY_XID, places.made),
+        Field::U32(NEXT_DOCUMENT, FIRST_DOCUMENT),
+    ];
+    put_fields(block, &fields);
 }
 
 // What the volume says of itself: its features, its identifier and its name.
 fn put_names(block: &mut [u8], volume: &VolPlan)
     requires { 4096 ≤ length block.old }
 {
-    put_u64(block, FEATURES, HARD_LINK_RECORDS);
-    put_u64(block, INCOMPAT, features_of(volume.names));
-    put_u16(block, CRYPTO_VERSION, NO_CRYPTO_VERSION);
-    put_u32(block, CRYPTO_CLASS, NO_CRYPTO_CLASS);
-    put_u16(block, CRYPTO_REVISION, NO_CRYPTO_REVISION);
+    let fields = [
+        Field::U64(FEATURES, HARD_LINK_RECORDS),
+        Field::U64(INCOMPAT, features_of(volume.names)),
+        Field::U16(CRYPTO_VERSION, NO_CRYPTO_VERSION),
+        Field::U32(CRYPTO_CLASS, NO_CRYPTO_CLASS),
+        Field::U16(CRYPTO_REVISION, NO_CRYPTO_REVISION),
+        Field::U64(FS_FLAGS, UNENCRYPTED),
+    ];
+    put_fields(block, &fields);
     put_bytes(block, UUID, &volume.uuid);
-    put_u64(block, FS_FLAGS, UNENCRYPTED);
     if volume.name.len() < NAME_LEN {
         put_bytes(block, NAME, &volume.name);
     }
@@ -105,8 +125,6 @@ pub(crate) fn volume_superblock(
         subtype: 0,
     };
     let mut block = block_with(alloc, geometry.size, &head)?;
-    put_u32(&mut block, MAGIC, VOLUME_MAGIC);
-    put_u32(&mut block, SLOT, (places.slot % 0x1_0000_0000) as u32);
     put_trees(&mut block, places);
     put_names(&mut block, volume);
     reseal(&mut block);

@@ -2,7 +2,7 @@
 ghost use Rattle.std.specs.Prelude.{◌≡◌, ◌≤◌, ◌+◌, IfOk, drop, length, replicate};
 ghost use Rattle.img_plan.specs.Records.{IsEmbeddedValue, IsNamedKey, IsStreamedValue};
 
-use super::keys::{Item, key_named};
+use super::keys::{Item, key_named, zeros};
 use apfs_layout::key::ATTRIBUTE;
 use apfs_layout::record::{
     ATTRIBUTE_CONTENTS, ATTRIBUTE_CONTENTS_LEN, ATTRIBUTE_EMBEDDED, ATTRIBUTE_FLAGS,
@@ -42,7 +42,7 @@ pub fn attribute(alloc: Global, file: u64, name: &[u8], contents: &[u8]) -> Resu
     ensures value { IfOk result (λ item. IsEmbeddedValue contents.now item.1.items) }
 {
     let key = key_named(alloc, file, ATTRIBUTE, name)?;
-    let mut value = vec![in alloc; 0u8; ATTRIBUTE_CONTENTS + contents.len()]?;
+    let mut value = zeros(alloc, ATTRIBUTE_CONTENTS + contents.len())?;
     put_embedded(&mut value, contents);
     Ok((key, value))
 }
@@ -60,7 +60,7 @@ pub fn stream_attribute(
     ensures value { IfOk result (λ item. IsStreamedValue stream size item.1.items) }
 {
     let key = key_named(alloc, file, ATTRIBUTE, name)?;
-    let mut value = vec![in alloc; 0u8; ATTRIBUTE_CONTENTS + ATTRIBUTE_STREAM_LEN]?;
+    let mut value = zeros(alloc, ATTRIBUTE_CONTENTS + ATTRIBUTE_STREAM_LEN)?;
     put_streamed(&mut value, stream, size);
     Ok((key, value))
 }

@@ -4,7 +4,7 @@ ghost use Rattle.apfs_model.specs.Bytes as number;
 ghost use Rattle.img_plan.specs.Records.{IsEntryFront, IsEntryKey, IsEntryValue, IsHashedKey, IsSiblingField};
 
 use super::fields::{ONE_FIELD, put_field_at};
-use super::keys::{Item, key_named, put_start};
+use super::keys::{Item, both, key_named, put_start, zeros};
 use apfs_layout::key::{ENTRY, HASH_UNIT, HASHED_NAME, LEN_AND_HASH};
 use apfs_layout::record::{
     ENTRY_FILE_ID, ENTRY_FLAGS, ENTRY_LEN, FIELD_SIBLING, FIELD_SIBLING_LEN,
@@ -14,7 +14,7 @@ use img_edit::{put_bytes, put_u16, put_u32, put_u64};
 use std::alloc::{AllocError, Global};
 
 /// What an entry says beside its name.
-#[derive(Clone, Copy, PartialEq, Eq)]
+#[derive(Clone, Copy)]
 pub struct EntryPlan {
     /// The directory that has the entry.
     pub directory: u64,
@@ -45,7 +45,7 @@ fn hashed_key(alloc: Global, directory: u64, name: &[u8], hash: u32) -> Result<V
     ensures len { IfOk result (λ key. vec_len key ≡ 13 + length name.now) }
     ensures key { IfOk result (λ key. IsHashedKey directory hash name.now key.items) }
 {
-    let mut key = vec![in alloc; 0u8; HASHED_NAME + name.len() + 1]?;
+    let mut key = zeros(alloc, HASHED_NAME + name.len() + 1)?;
     put_hashed(&mut key, directory, name, hash);
     Ok(key)
 }
@@ -75,13 +75,13 @@ fn put_entry(value: &mut [u8], file: u64, kind: u16)
     put_u16(value, ENTRY_FLAGS, kind);
 }
 
-// The value of an entry with so many bytes after its fixed part.
-fn entry_value(alloc: Global, plan: &EntryPlan, more: usize) -> Result<Vec<u8>, AllocError>
+// The fixed part of an entry's value, with so many bytes after it.
+fn entry_front(alloc: Global, plan: &EntryPlan, more: usize) -> Result<Vec<u8>, AllocError>
     requires { more ≤ 100 }
     ensures len { IfOk result (λ value. vec_len value ≡ 18 + more) }
     ensures front { IfOk result (λ value. IsEntryFront plan.now.file plan.now.kind value.items) }
 {
-    let mut value = vec![in alloc; 0u8; ENTRY_LEN + more]?;
+    let mut value = zeros(alloc, ENTRY_LEN + more)?;
     put_entry(&mut value, plan.file, plan.kind);
     Ok(value)
 }
@@ -97,6 +97,19 @@ fn put_sibling(value: &mut [u8], sibling: u64)
     put_field_at(value, ENTRY_LEN, FIELD_SIBLING, &number);
 }
 
+// The value of an entry.
+fn entry_value(alloc: Global, plan: &EntryPlan) -> Result<Vec<u8>, AllocError>
+    ensures value { IfOk result (λ value. IsEntryValue plan.now value.items) }
+    ensures len { IsNone plan.now.sibling → IfOk result (λ value. vec_len value ≡ 18) }
+{
+    let Some(sibling) = plan.sibling else {
+        return entry_front(alloc, plan, 0);
+    };
+    let mut value = entry_front(alloc, plan, ONE_FIELD + FIELD_SIBLING_LEN)?;
+    put_sibling(&mut value, sibling);
+    Ok(value)
+}
+
 /// The record of an entry with a name, on a volume of these names.
 pub fn entry(alloc: Global, names: Names, plan: &EntryPlan, name: &str) -> Result<Item, AllocError>
     requires { length name.now ≤ 1022 }
@@ -105,13 +118,8 @@ pub fn entry(alloc: Global, names: Names, plan: &EntryPlan, name: &str) -> Resul
     ensures key_len { IfOk result (λ item. vec_len item.0 ≤ 13 + length name.now) }
     ensures value_len { IsNone plan.now.sibling → IfOk result (λ item. vec_len item.1 ≡ 18) }
 {
-    let key = entry_key(alloc, names, plan.directory, name)?;
-    match plan.sibling {
-        None => Ok((key, entry_value(alloc, plan, 0)?)),
-        Some(sibling) => {
-            let mut value = entry_value(alloc, plan, ONE_FIELD + FIELD_SIBLING_LEN)?;
-            put_sibling(&mut value, sibling);
-            Ok((key, value))
-        }
-    }
+    both(
+        entry_key(alloc, names, plan.directory, name),
+        entry_value(alloc, plan),
+    )
 }

@@ -27,7 +27,6 @@ fn put_field(part: &mut [u8], kind: u8, contents: &[u8])
 }
 
 // One field at the end of a value, from a place on.
-#[tactic(auto, using(std::proofs::lemmas::Slice::overwrites))]
 pub(crate) fn put_field_at(value: &mut [u8], place: usize, kind: u8, contents: &[u8])
     requires whole { length value.old ≡ place + 8 + length contents.now }
     requires short { length contents.now ≤ 1000 }

@@ -3,7 +3,7 @@ ghost use Rattle.std.specs.Prelude.{◌≡◌, ◌≤◌, ◌+◌, IfOk, IsNone,
 ghost use Rattle.img_plan.specs.Records.{IsInodeFront, IsInodeValue, IsShortKey, IsStreamBytes, IsStreamField};
 
 use super::fields::{ONE_FIELD, put_field_at};
-use super::keys::{Item, key};
+use super::keys::{Item, both, key, zeros};
 use apfs_layout::key::{INODE, RECORD_LEN};
 use apfs_layout::record::{
     FIELD_STREAM, INODE_BSD_FLAGS, INODE_FLAGS, INODE_LEN, INODE_LINKS, INODE_MODE, INODE_PARENT,
@@ -22,7 +22,7 @@ pub const FILE_MODE: u16 = 0x81a4;
 pub const LINK_MODE: u16 = 0xa1ed;
 
 /// What an inode says.
-#[derive(Clone, Copy, PartialEq, Eq)]
+#[derive(Clone, Copy)]
 pub struct InodePlan {
     pub id: u64,
     pub parent: u64,
@@ -112,14 +112,27 @@ fn put_inode(value: &mut [u8], plan: &InodePlan)
     put_u16(value, INODE_MODE, plan.mode);
 }
 
-// The value of an inode with so many bytes after its fixed part.
-fn inode_value(alloc: Global, plan: &InodePlan, more: usize) -> Result<Vec<u8>, AllocError>
+// The fixed part of an inode's value, with so many bytes after it.
+fn inode_front(alloc: Global, plan: &InodePlan, more: usize) -> Result<Vec<u8>, AllocError>
     requires { more ≤ 100 }
     ensures len { IfOk result (λ value. vec_len value ≡ 92 + more) }
     ensures front { IfOk result (λ value. IsInodeFront plan.now value.items) }
 {
-    let mut value = vec![in alloc; 0u8; INODE_LEN + more]?;
+    let mut value = zeros(alloc, INODE_LEN + more)?;
     put_inode(&mut value, plan);
+    Ok(value)
+}
+
+// The value of an inode.
+fn inode_value(alloc: Global, plan: &InodePlan) -> Result<Vec<u8>, AllocError>
+    ensures value { IfOk result (λ value. IsInodeValue plan.now value.items) }
+    ensures len { IsNone plan.now.stream → IfOk result (λ value. vec_len value ≡ 92) }
+{
+    let Some(size) = plan.stream else {
+        return inode_front(alloc, plan, 0);
+    };
+    let mut value = inode_front(alloc, plan, ONE_FIELD + STREAM_LEN)?;
+    put_stream_field(&mut value, size);
     Ok(value)
 }
 
@@ -130,13 +143,8 @@ pub fn inode(alloc: Global, plan: &InodePlan) -> Result<Item, AllocError>
     ensures key_len { IfOk result (λ item. vec_len item.0 ≡ 8) }
     ensures value_len { IsNone plan.now.stream → IfOk result (λ item. vec_len item.1 ≡ 92) }
 {
-    let key = key(alloc, plan.id, INODE, RECORD_LEN)?;
-    match plan.stream {
-        None => Ok((key, inode_value(alloc, plan, 0)?)),
-        Some(size) => {
-            let mut value = inode_value(alloc, plan, ONE_FIELD + STREAM_LEN)?;
-            put_stream_field(&mut value, size);
-            Ok((key, value))
-        }
-    }
+    both(
+        key(alloc, plan.id, INODE, RECORD_LEN),
+        inode_value(alloc, plan),
+    )
 }

@@ -1,8 +1,8 @@
 // The keys of records (File-System Objects, j_key_t), and what an item takes in a node.
-ghost use Rattle.std.specs.Prelude.{◌≡◌, ◌≤◌, ◌<◌, ◌+◌, ◌-◌, ◌%◌, ◌^◌, min, IfOk, drop, length, vec_len};
+ghost use Rattle.std.specs.Prelude.{◌≡◌, ◌≤◌, ◌<◌, ◌+◌, ◌-◌, ◌%◌, ◌^◌, min, IfOk, Ok, drop, length, replicate, vec_len};
 ghost use Rattle.apfs_model.specs.Bytes as number;
 ghost use Rattle.img_plan.specs.Nodes.{bytes_in_node};
-ghost use Rattle.img_plan.specs.Records.{IsLongKey, IsNamedKey, id_and_kind, id_of, kind_of, rank_of, sub_of};
+ghost use Rattle.img_plan.specs.Records.{IsLongKey, IsNamedKey, IsNumberValue, IsPairKey, id_and_kind, id_of, kind_of, rank_of, sub_of};
 
 use super::names::zeros_and_name;
 use apfs_layout::key::{
@@ -25,6 +25,55 @@ pub fn node_bytes(item: &Item) -> usize
         .saturating_add(VARIABLE_ENTRY_LEN)
 }
 
+// An item of a key and a value that were made.
+pub(crate) fn both(
+    key: Result<Vec<u8>, AllocError>,
+    value: Result<Vec<u8>, AllocError>,
+) -> Result<Item, AllocError>
+    ensures key { IfOk result (λ item. key ≡ Ok item.0) }
+    ensures value { IfOk result (λ item. value ≡ Ok item.1) }
+{
+    Ok((key?, value?))
+}
+
+// So many zeros.
+pub(crate) fn zeros(alloc: Global, len: usize) -> Result<Vec<u8>, AllocError>
+    ensures len { IfOk result (λ bytes. vec_len bytes ≡ len) }
+    ensures zeros { IfOk result (λ bytes. bytes.items ≡ replicate len 0) }
+{
+    Ok(vec![in alloc; 0u8; len]?)
+}
+
+// The bytes of a number of 64 bits.
+const NUMBER_LEN: usize = 8;
+
+// A key or a value that is a number.
+pub(crate) fn number(alloc: Global, number: u64) -> Result<Vec<u8>, AllocError>
+    ensures { IfOk result (λ bytes. IsNumberValue number bytes.items) }
+{
+    let mut bytes = zeros(alloc, NUMBER_LEN)?;
+    put_u64(&mut bytes, 0, number);
+    Ok(bytes)
+}
+
+// Two numbers in the bytes of both.
+fn put_pair(pair: &mut [u8], first: u64, second: u64)
+    requires { length pair.old ≡ 16 }
+    ensures { IsPairKey first second pair.new }
+{
+    put_u64(pair, 0, first);
+    put_u64(pair, NUMBER_LEN, second);
+}
+
+// A key that is two numbers.
+pub(crate) fn pair(alloc: Global, first: u64, second: u64) -> Result<Vec<u8>, AllocError>
+    ensures { IfOk result (λ key. IsPairKey first second key.items) }
+{
+    let mut pair = zeros(alloc, 2 * NUMBER_LEN)?;
+    put_pair(&mut pair, first, second);
+    Ok(pair)
+}
+
 // The start of a key: an id, of which the low 60 bits count, and a kind.
 pub(super) fn put_start(key: &mut [u8], id: u64, kind: u8)
     requires { 8 ≤ length key.old }
@@ -41,7 +90,7 @@ pub(crate) fn key(alloc: Global, id: u64, kind: u8, len: usize) -> Result<Vec<u8
     ensures len { IfOk result (λ key. vec_len key ≡ len) }
     ensures start { IfOk result (λ key. number.u64_at key.items 0 ≡ id_and_kind id (kind % 16)) }
 {
-    let mut key = vec![in alloc; 0u8; len]?;
+    let mut key = zeros(alloc, len)?;
     put_start(&mut key, id, kind);
     Ok(key)
 }

@@ -3,20 +3,10 @@ ghost use Rattle.std.specs.Prelude.{◌≡◌, IfOk, length, replicate};
 ghost use Rattle.apfs_model.specs.Bytes as number;
 ghost use Rattle.img_plan.specs.Records.{IsMapValue, IsNumberKey, IsNumberValue, IsPairKey};
 
-use super::keys::Item;
-use apfs_layout::node::CHILD_LEN;
-use apfs_layout::{key, value};
+use super::keys::{Item, both, number, pair, zeros};
+use apfs_layout::value;
 use img_edit::{put_u32, put_u64};
 use std::alloc::{AllocError, Global};
-
-// A key of an object and a transaction.
-fn put_map_key(map_key: &mut [u8], oid: u64, xid: u64)
-    requires { length map_key.old ≡ 16 }
-    ensures { IsPairKey oid xid map_key.new }
-{
-    put_u64(map_key, key::OMAP_OID, oid);
-    put_u64(map_key, key::OMAP_XID, xid);
-}
 
 // The value of a mapping, in bytes that are zeros.
 fn put_map_value(map_value: &mut [u8], bytes: u32, block: u64)
@@ -39,9 +29,8 @@ pub fn map_record(
     ensures key { IfOk result (λ item. IsPairKey oid xid item.0.items) }
     ensures value { IfOk result (λ item. IsMapValue bytes block item.1.items) }
 {
-    let mut map_key = vec![in alloc; 0u8; key::OMAP_LEN]?;
-    put_map_key(&mut map_key, oid, xid);
-    let mut map_value = vec![in alloc; 0u8; value::OMAP_LEN]?;
+    let map_key = pair(alloc, oid, xid)?;
+    let mut map_value = zeros(alloc, value::OMAP_LEN)?;
     put_map_value(&mut map_value, bytes, block);
     Ok((map_key, map_value))
 }
@@ -51,9 +40,7 @@ pub fn map_snapshot(alloc: Global, xid: u64) -> Result<Item, AllocError>
     ensures key { IfOk result (λ item. IsNumberKey xid item.0.items) }
     ensures value { IfOk result (λ item. item.1.items ≡ replicate 16 0) }
 {
-    let mut snapshot = vec![in alloc; 0u8; key::MAP_SNAPSHOT_LEN]?;
-    put_u64(&mut snapshot, key::MAP_SNAPSHOT_XID, xid);
-    Ok((snapshot, vec![in alloc; 0u8; value::MAP_SNAPSHOT_LEN]?))
+    both(number(alloc, xid), zeros(alloc, value::MAP_SNAPSHOT_LEN))
 }
 
 /// The item by which a node names its child.
@@ -61,8 +48,5 @@ pub fn child(alloc: Global, first_key: &[u8], oid: u64) -> Result<Item, AllocErr
     ensures key { IfOk result (λ item. item.0.items ≡ first_key.now) }
     ensures value { IfOk result (λ item. IsNumberValue oid item.1.items) }
 {
-    let copy = first_key.to_vec(alloc)?;
-    let mut child = vec![in alloc; 0u8; CHILD_LEN]?;
-    put_u64(&mut child, 0, oid);
-    Ok((copy, child))
+    both(first_key.to_vec(alloc), number(alloc, oid))
 }

@@ -2,6 +2,7 @@
 ghost use Rattle.std.specs.Prelude.{◌≡◌, ◌≤◌, ◌+◌, [], ◌∷◌, IfOk, length, take, drop, replicate};
 ghost use Rattle.img_plan.specs.Records.{EndsInName};
 
+use super::keys::zeros;
 use img_edit::{put_bytes, put_u16};
 use std::alloc::{AllocError, Global};
 
@@ -24,16 +25,16 @@ fn put_name(bytes: &mut [u8], place: usize, name: &[u8])
 // So many zeros, and then a name with its length.
 pub(super) fn zeros_and_name(
     alloc: Global,
-    zeros: usize,
+    place: usize,
     name: &[u8],
 ) -> Result<Vec<u8>, AllocError>
     requires short { length name.now ≤ 1022 }
-    requires front { zeros ≤ 100 }
-    ensures named { IfOk result (λ bytes. EndsInName zeros name.now bytes.items) }
-    ensures len { IfOk result (λ bytes. length bytes.items ≡ zeros + 3 + length name.now) }
-    ensures zeros { IfOk result (λ bytes. take zeros bytes.items ≡ replicate zeros 0) }
+    requires front { place ≤ 100 }
+    ensures named { IfOk result (λ bytes. EndsInName place name.now bytes.items) }
+    ensures len { IfOk result (λ bytes. length bytes.items ≡ place + 3 + length name.now) }
+    ensures zeros { IfOk result (λ bytes. take place bytes.items ≡ replicate place 0) }
 {
-    let mut bytes = vec![in alloc; 0u8; zeros + NAME_LEN_BYTES + name.len() + 1]?;
-    put_name(&mut bytes, zeros, name);
+    let mut bytes = zeros(alloc, place + NAME_LEN_BYTES + name.len() + 1)?;
+    put_name(&mut bytes, place, name);
     Ok(bytes)
 }

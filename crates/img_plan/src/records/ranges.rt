@@ -4,10 +4,10 @@ ghost use Rattle.std.specs.Prelude.{◌≡◌, IfOk, length};
 ghost use Rattle.apfs_model.specs.Bytes as number;
 ghost use Rattle.img_plan.specs.Records.{IsNumberValue, IsPairKey, IsRangeValue, IsShortKey};
 
-use super::keys::{Item, key as record_key};
+use super::keys::{Item, both, key, number, pair, zeros};
 use crate::plan::{NewRange, QueueEntry};
 use apfs_layout::key::{EXTENT, KIND_UNIT, RECORD_LEN};
-use apfs_layout::{key, value};
+use apfs_layout::value;
 use img_edit::{put_u32, put_u64};
 use std::alloc::{AllocError, Global};
 
@@ -22,22 +22,13 @@ fn put_range(value: &mut [u8], blocks: u64, count: i32)
     put_u32(value, value::EXT_COUNT, count.cast_unsigned());
 }
 
-// A key of two numbers.
-fn put_pair(freed: &mut [u8], xid: u64, paddr: u64)
-    requires { length freed.old ≡ 16 }
-    ensures { IsPairKey xid paddr freed.new }
-{
-    put_u64(freed, key::QUEUE_XID, xid);
-    put_u64(freed, key::QUEUE_PADDR, paddr);
-}
-
 /// The record of a range of blocks that files own.
 pub fn range_record(alloc: Global, range: &NewRange) -> Result<Item, AllocError>
     ensures key { IfOk result (λ item. IsShortKey range.now.first 2 item.0.items) }
     ensures value { IfOk result (λ item. IsRangeValue range.now.length range.now.count item.1.items) }
 {
-    let first = record_key(alloc, range.first, EXTENT, RECORD_LEN)?;
-    let mut owned = vec![in alloc; 0u8; value::EXT_LEN]?;
+    let first = key(alloc, range.first, EXTENT, RECORD_LEN)?;
+    let mut owned = zeros(alloc, value::EXT_LEN)?;
     put_range(&mut owned, range.length, range.count);
     Ok((first, owned))
 }
@@ -47,9 +38,8 @@ pub fn queue_record(alloc: Global, entry: &QueueEntry) -> Result<Item, AllocErro
     ensures key { IfOk result (λ item. IsPairKey entry.now.xid entry.now.paddr item.0.items) }
     ensures value { IfOk result (λ item. IsNumberValue entry.now.length item.1.items) }
 {
-    let mut freed = vec![in alloc; 0u8; key::QUEUE_LEN]?;
-    put_pair(&mut freed, entry.xid, entry.paddr);
-    let mut length = vec![in alloc; 0u8; value::QUEUE_LEN]?;
-    put_u64(&mut length, value::QUEUE_LENGTH, entry.length);
-    Ok((freed, length))
+    both(
+        pair(alloc, entry.xid, entry.paddr),
+        number(alloc, entry.length),
+    )
 }

@@ -2,10 +2,10 @@
 ghost use Rattle.std.specs.Prelude.{◌≤◌, IfOk, length};
 ghost use Rattle.img_plan.specs.Records.{IsLinkValue, IsLongKey, IsNumberValue, IsShortKey};
 
-use super::keys::{Item, key, key_with};
+use super::keys::{Item, both, key, key_with, number};
 use super::names::zeros_and_name;
 use apfs_layout::key::{RECORD_LEN, SIBLING_LINK, SIBLING_MAP};
-use apfs_layout::record::{LINK_NAME_LEN, LINK_PARENT, MAP_FILE, MAP_LEN};
+use apfs_layout::record::{LINK_NAME_LEN, LINK_PARENT};
 use img_edit::put_u64;
 use std::alloc::{AllocError, Global};
 
@@ -32,8 +32,8 @@ pub fn sibling_map(alloc: Global, sibling: u64, file: u64) -> Result<Item, Alloc
     ensures key { IfOk result (λ item. IsShortKey sibling 12 item.0.items) }
     ensures value { IfOk result (λ item. IsNumberValue file item.1.items) }
 {
-    let key = key(alloc, sibling, SIBLING_MAP, RECORD_LEN)?;
-    let mut value = vec![in alloc; 0u8; MAP_LEN]?;
-    put_u64(&mut value, MAP_FILE, file);
-    Ok((key, value))
+    both(
+        key(alloc, sibling, SIBLING_MAP, RECORD_LEN),
+        number(alloc, file),
+    )
 }

@@ -2,7 +2,7 @@
 ghost use Rattle.std.specs.Prelude.{◌≡◌, ◌≤◌, ◌-◌, ◌^◌, IfOk, length, take, drop, replicate};
 ghost use Rattle.img_plan.specs.Records.{IsNamedKey, IsNumberValue, IsShortKey, IsSnapshotFront, IsSnapshotValue};
 
-use super::keys::{Item, key, key_named};
+use super::keys::{Item, both, key, key_named, number};
 use super::names::zeros_and_name;
 use apfs_layout::key::{KIND_UNIT, RECORD_LEN, SNAPSHOT, SNAPSHOT_NAME as NAME_KIND};
 use apfs_layout::value::{
@@ -10,9 +10,6 @@ use apfs_layout::value::{
 };
 use img_edit::{put_u32, put_u64};
 use std::alloc::{AllocError, Global};
-
-// The length of the value of a snapshot's name.
-const NAME_VALUE_LEN: usize = 8;
 
 // A physical tree (Objects, Object Types and Object Type Flags).
 const PHYSICAL_TREE: u32 = 0x4000_0002;
@@ -57,8 +54,8 @@ pub fn snapshot_name(alloc: Global, xid: u64, name: &[u8]) -> Result<Item, Alloc
     ensures key { IfOk result (λ item. IsNamedKey (2 ^ 60 - 1) 11 name.now item.0.items) }
     ensures value { IfOk result (λ item. IsNumberValue xid item.1.items) }
 {
-    let key = key_named(alloc, NAMES_ID, NAME_KIND, name)?;
-    let mut value = vec![in alloc; 0u8; NAME_VALUE_LEN]?;
-    put_u64(&mut value, 0, xid);
-    Ok((key, value))
+    both(
+        key_named(alloc, NAMES_ID, NAME_KIND, name),
+        number(alloc, xid),
+    )
 }

@@ -3,7 +3,7 @@ ghost use Rattle.std.specs.Prelude.{◌≡◌, IfOk, length};
 ghost use Rattle.apfs_model.specs.Bytes as number;
 ghost use Rattle.img_plan.specs.Records.{IsExtentValue, IsLongKey, IsShortKey, IsStreamValue};
 
-use super::keys::{Item, key, key_with};
+use super::keys::{Item, key, key_with, zeros};
 use apfs_layout::key::{FILE_EXTENT, RECORD_LEN, STREAM_ID};
 use apfs_layout::record::{EXTENT_BLOCK, EXTENT_LEN, EXTENT_LENGTH, STREAM_COUNT, STREAM_ID_LEN};
 use img_edit::{put_u32, put_u64};
@@ -18,7 +18,7 @@ pub fn stream_id(alloc: Global, stream: u64) -> Result<Item, AllocError>
     ensures value { IfOk result (λ item. IsStreamValue item.1.items) }
 {
     let key = key(alloc, stream, STREAM_ID, RECORD_LEN)?;
-    let mut value = vec![in alloc; 0u8; STREAM_ID_LEN]?;
+    let mut value = zeros(alloc, STREAM_ID_LEN)?;
     put_u32(&mut value, STREAM_COUNT, 1);
     Ok((key, value))
 }
@@ -46,7 +46,7 @@ pub fn file_extent(
     ensures value { IfOk result (λ item. IsExtentValue length block item.1.items) }
 {
     let key = key_with(alloc, stream, FILE_EXTENT, address)?;
-    let mut value = vec![in alloc; 0u8; EXTENT_LEN]?;
+    let mut value = zeros(alloc, EXTENT_LEN)?;
     put_extent(&mut value, length, block);
     Ok((key, value))
 }

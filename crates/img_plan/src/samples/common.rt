@@ -1,38 +1,67 @@
-// What all samples have in common: a container of 256 blocks with the volume `Small`.
+// What all samples have in common: a container of 256 blocks with volumes of their own.
 ghost use Rattle.std.specs.Prelude.{◌≡◌, IfOk, vec_len};
 
+use crate::files::FileTree;
 use crate::plan::{Leaf, NewRange, Plan, Version, VolPlan};
-use crate::records::Item;
 use fs_name::Names;
 use std::alloc::{AllocError, Global};
 
 // The oid of a root of a file-system tree.
 pub(super) const ROOT_OID: u64 = img_edit::places::ROOT_OID;
 
-// The identifier of each sample's volume: that of the container backwards.
-pub(super) const VOLUME_UUID: [u8; 16] = [
-    0xff, 0xee, 0xdd, 0xcc, 0xbb, 0xaa, 0x99, 0x88, 0x77, 0x66, 0x55, 0x44, 0x33, 0x22, 0x11, 0x00,
-];
+// How a volume is told from others, and how it compares names.
+#[derive(Clone, Copy)]
+pub(super) struct Head {
+    pub name: &'static [u8],
+    pub uuid: [u8; 16],
+    pub names: Names,
+}
 
-// A container whose volume has these versions and owns these ranges.
-pub(super) fn container(
+// The volume that each sample has. Its identifier is that of the container backwards.
+pub(super) const SMALL: Head = Head {
+    name: b"Small",
+    uuid: [
+        0xff, 0xee, 0xdd, 0xcc, 0xbb, 0xaa, 0x99, 0x88, 0x77, 0x66, 0x55, 0x44, 0x33, 0x22, 0x11,
+        0x00,
+    ],
+    names: Names::Folded,
+};
+
+// Blocks of files, each as its number and what it starts with.
+pub(super) type Contents = &'static [(u64, &'static [u8])];
+
+// The contents of blocks.
+fn copied(alloc: Global, contents: Contents) -> Result<Vec<(u64, Vec<u8>)>, AllocError> {
+    let mut copies = Vec::new(alloc);
+    for (block, bytes) in contents.iter() {
+        copies.push((*block, bytes.to_vec(alloc)?))?;
+    }
+    Ok(copies)
+}
+
+// A volume with these versions, whose files have these ranges and contents.
+pub(super) fn volume(
     alloc: Global,
-    xid: u64,
+    head: &Head,
     versions: Vec<Version>,
-    extents: Vec<NewRange>,
-    contents: Vec<(u64, Vec<u8>)>,
-) -> Result<Plan, AllocError>
+    extents: &[NewRange],
+    contents: Contents,
+) -> Result<VolPlan, AllocError> {
+    Ok(VolPlan {
+        name: head.name.to_vec(alloc)?,
+        uuid: head.uuid,
+        names: head.names,
+        versions,
+        extents: extents.to_vec(alloc)?,
+        contents: copied(alloc, contents)?,
+    })
+}
+
+// A container with one volume.
+pub(super) fn container(alloc: Global, xid: u64, volume: VolPlan) -> Result<Plan, AllocError>
     ensures blocks { IfOk result (λ plan. plan.blocks ≡ 256) }
     ensures one_volume { IfOk result (λ plan. vec_len plan.volumes ≡ 1) }
 {
-    let volume = VolPlan {
-        name: b"Small".to_vec(alloc)?,
-        uuid: VOLUME_UUID,
-        names: Names::Folded,
-        versions,
-        extents,
-        contents,
-    };
     Ok(Plan {
         blocks: 256,
         xid,
@@ -43,10 +72,14 @@ pub(super) fn container(
 }
 
 // The one version of a volume without snapshots, whose records fit one leaf.
-pub(super) fn one_version(alloc: Global, items: Vec<Item>) -> Result<Vec<Version>, AllocError> {
+pub(super) fn one_version(
+    alloc: Global,
+    oid: u64,
+    tree: FileTree,
+) -> Result<Vec<Version>, AllocError> {
     let leaf = Leaf {
-        oid: ROOT_OID,
-        items,
+        oid,
+        items: tree.items(alloc)?,
     };
     let version = Version {
         xid: 1,
@@ -54,14 +87,4 @@ pub(super) fn one_version(alloc: Global, items: Vec<Item>) -> Result<Vec<Version
         leaves: vec![in alloc; leaf]?,
     };
     Ok(vec![in alloc; version]?)
-}
-
-// Block 57, which so many streams have.
-pub(super) fn block_57(alloc: Global, count: i32) -> Result<Vec<NewRange>, AllocError> {
-    let range = NewRange {
-        first: 57,
-        length: 1,
-        count,
-    };
-    Ok(vec![in alloc; range]?)
 }

@@ -2,7 +2,7 @@
 ghost use Rattle.std.specs.Prelude.{◌≡◌, ◌≤◌, IfOk, length, vec_len};
 ghost use Rattle.img_plan.specs.Plans.{IsBareLeaf, IsBareVersion, IsLeaf, IsSmall, IsSmallVolume, IsValid, IsVersion, IsVolume};
 
-use super::common::{ROOT_OID, VOLUME_UUID};
+use super::common::{ROOT_OID, SMALL};
 use crate::files::{ABOVE_ROOT, PRIVATE, ROOT};
 use crate::plan::{Leaf, Plan, Version, VolPlan};
 use crate::records::{EntryPlan, InodePlan, Item, entry, inode};
@@ -67,13 +67,13 @@ fn bare_version(alloc: Global) -> Result<Version, AllocError>
 }
 
 // The volume of the small container.
-fn small_volume(alloc: Global) -> Result<VolPlan, AllocError>
+pub(super) fn small_volume(alloc: Global) -> Result<VolPlan, AllocError>
     ensures valid { IfOk result IsVolume }
     ensures small { IfOk result IsSmallVolume }
 {
     Ok(VolPlan {
-        name: b"Small".to_vec(alloc)?,
-        uuid: VOLUME_UUID,
+        name: SMALL.name.to_vec(alloc)?,
+        uuid: SMALL.uuid,
         names: Names::Folded,
         versions: vec![in alloc; bare_version(alloc)?]?,
         extents: Vec::new(alloc),

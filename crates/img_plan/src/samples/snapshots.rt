@@ -1,11 +1,10 @@
 // An empty file whose name is `old` before transaction 4, and `new` from it on and now: with the snapshots `s2` and `s4`,
 // or with one at each transaction from 1 to 8.
-ghost use Rattle.std.specs.Prelude.{◌≡◌, IfOk, vec_len};
 
-use super::common::container;
+use super::common::{SMALL, volume};
 use crate::files::{FileTree, ROOT};
-use crate::plan::{Leaf, Plan, Version};
-use crate::records::InodePlan;
+use crate::plan::{Leaf, Version, VolPlan};
+use crate::records::{InodePlan, Item};
 use fs_name::Names;
 use std::alloc::{AllocError, Global};
 
@@ -14,16 +13,37 @@ const FIRST_LEAF: u64 = 1031;
 
 const SECOND_LEAF: u64 = 1032;
 
-// The tree of a transaction at which the file has a name.
-fn version(
-    alloc: Global,
-    xid: u64,
-    snapshot: Option<Vec<u8>>,
-    name: &str,
-) -> Result<Version, AllocError> {
+// A transaction, the snapshot that keeps it, and the file's name then.
+pub(super) type Row = (u64, Option<&'static [u8]>, &'static str);
+
+// Two snapshots, between which the file was renamed.
+pub(super) const TWO: &[Row] = &[
+    (1, None, "old"),
+    (2, Some(b"s2"), "old"),
+    (4, Some(b"s4"), "new"),
+];
+
+// Eight snapshots of a volume, whose tree has four nodes in all.
+pub(super) const EIGHT: &[Row] = &[
+    (1, Some(b"s1"), "old"),
+    (2, Some(b"s2"), "old"),
+    (3, Some(b"s3"), "old"),
+    (4, Some(b"s4"), "new"),
+    (5, Some(b"s5"), "new"),
+    (6, Some(b"s6"), "new"),
+    (7, Some(b"s7"), "new"),
+    (8, Some(b"s8"), "new"),
+];
+
+// The records of a tree in which the file has a name.
+fn items(alloc: Global, name: &str) -> Result<Vec<Item>, AllocError> {
     let mut tree = FileTree::new(alloc, Names::Folded)?;
     tree.add(alloc, InodePlan::file(16, ROOT), name)?;
-    let mut items = tree.items(alloc)?;
+    tree.items(alloc)
+}
+
+// Records in two leaves, of which the second one has the last record.
+fn leaves(alloc: Global, mut items: Vec<Item>) -> Result<Vec<Leaf>, AllocError> {
     let mut last = Vec::new(alloc);
     if let Some(inode) = items.pop() {
         last.push(inode)?;
@@ -36,45 +56,27 @@ fn version(
         oid: SECOND_LEAF,
         items: last,
     };
+    Ok(vec![in alloc; first, second]?)
+}
+
+// The tree of a transaction.
+fn version(alloc: Global, row: &Row) -> Result<Version, AllocError> {
+    let snapshot = match row.1 {
+        None => None,
+        Some(name) => Some(name.to_vec(alloc)?),
+    };
     Ok(Version {
-        xid,
+        xid: row.0,
         snapshot,
-        leaves: vec![in alloc; first, second]?,
+        leaves: leaves(alloc, items(alloc, row.2)?)?,
     })
 }
 
-// A container with two snapshots, between which a file was renamed.
-pub(super) fn snapshots(alloc: Global) -> Result<Plan, AllocError>
-    ensures blocks { IfOk result (λ plan. plan.blocks ≡ 256) }
-    ensures one_volume { IfOk result (λ plan. vec_len plan.volumes ≡ 1) }
-{
-    let made = version(alloc, 1, None, "old")?;
-    let kept = version(alloc, 2, Some(b"s2".to_vec(alloc)?), "old")?;
-    let renamed = version(alloc, 4, Some(b"s4".to_vec(alloc)?), "new")?;
-    let versions = vec![in alloc; made, kept, renamed]?;
-    container(alloc, 5, versions, Vec::new(alloc), Vec::new(alloc))
-}
-
-// The transactions with the snapshots that keep them, and the file's name then.
-const EIGHT: [(u64, &[u8], &str); 8] = [
-    (1, b"s1", "old"),
-    (2, b"s2", "old"),
-    (3, b"s3", "old"),
-    (4, b"s4", "new"),
-    (5, b"s5", "new"),
-    (6, b"s6", "new"),
-    (7, b"s7", "new"),
-    (8, b"s8", "new"),
-];
-
-// A container with eight snapshots of a volume, whose tree has four nodes in all.
-pub(super) fn eight(alloc: Global) -> Result<Plan, AllocError>
-    ensures blocks { IfOk result (λ plan. plan.blocks ≡ 256) }
-    ensures one_volume { IfOk result (λ plan. vec_len plan.volumes ≡ 1) }
-{
+// The volume with these transactions.
+pub(super) fn volume_with(alloc: Global, rows: &[Row]) -> Result<VolPlan, AllocError> {
     let mut versions = Vec::new(alloc);
-    for (xid, snapshot, name) in EIGHT {
-        versions.push(version(alloc, xid, Some(snapshot.to_vec(alloc)?), name)?)?;
+    for row in rows.iter() {
+        versions.push(version(alloc, row)?)?;
     }
-    container(alloc, 9, versions, Vec::new(alloc), Vec::new(alloc))
+    volume(alloc, &SMALL, versions, &[], &[])
 }

@@ -1,15 +1,19 @@
 // The small volume, and a second volume with the file `hello.txt` of one block.
 ghost use Rattle.std.specs.Prelude.{◌≡◌, IfOk, vec_len};
 
+use super::common::Head;
 use super::small;
-use crate::files::{FileTree, ROOT};
-use crate::plan::{Leaf, NewRange, Plan, Version, VolPlan};
-use crate::records::InodePlan;
+use super::streams::{File, Files, volume_with};
+use crate::plan::{NewRange, Plan};
 use fs_name::Names;
 use std::alloc::{AllocError, Global};
 
-// The identifier of the second volume.
-const UUID: [u8; 16] = [0x02, 0, 0, 0, 0, 0, 0, 0, 0, 0, 0, 0, 0, 0, 0, 0x02];
+// The second volume, in which capital and small letters differ.
+const SECOND: Head = Head {
+    name: b"Second",
+    uuid: [0x02, 0, 0, 0, 0, 0, 0, 0, 0, 0, 0, 0, 0, 0, 0, 0x02],
+    names: Names::Normal,
+};
 
 // The root of its file-system tree, which no other object has.
 const ROOT_OID: u64 = 1031;
@@ -17,40 +21,23 @@ const ROOT_OID: u64 = 1031;
 // The block of its file, after those of both volumes.
 const BLOCK: u64 = 63;
 
-// The tree with the file.
-fn tree(alloc: Global) -> Result<Version, AllocError> {
-    let mut tree = FileTree::new(alloc, Names::Normal)?;
-    let mut file = InodePlan::file(16, ROOT);
-    file.stream = Some(5);
-    tree.add(alloc, file, "hello.txt")?;
-    tree.stream(alloc, 16, &[(0, 4096, BLOCK)])?;
-    let leaf = Leaf {
-        oid: ROOT_OID,
-        items: tree.items(alloc)?,
-    };
-    Ok(Version {
-        xid: 1,
-        snapshot: None,
-        leaves: vec![in alloc; leaf]?,
-    })
-}
-
-// The second volume, in which capital and small letters differ.
-fn second(alloc: Global) -> Result<VolPlan, AllocError> {
-    let range = NewRange {
+// Its file.
+const HELLO: Files = Files {
+    head: SECOND,
+    oid: ROOT_OID,
+    files: &[File {
+        id: 16,
+        name: "hello.txt",
+        size: 5,
+        extents: &[(0, 4096, BLOCK)],
+    }],
+    ranges: &[NewRange {
         first: BLOCK,
         length: 1,
         count: 1,
-    };
-    Ok(VolPlan {
-        name: b"Second".to_vec(alloc)?,
-        uuid: UUID,
-        names: Names::Normal,
-        versions: vec![in alloc; tree(alloc)?]?,
-        extents: vec![in alloc; range]?,
-        contents: vec![in alloc; (BLOCK, b"hello".to_vec(alloc)?)]?,
-    })
-}
+    }],
+    contents: &[(BLOCK, b"hello")],
+};
 
 // A container with two volumes.
 pub(super) fn two(alloc: Global) -> Result<Plan, AllocError>
@@ -58,6 +45,6 @@ pub(super) fn two(alloc: Global) -> Result<Plan, AllocError>
     ensures two_volumes { IfOk result (λ plan. vec_len plan.volumes ≡ 2) }
 {
     let mut plan = small::small(alloc)?;
-    plan.volumes.push(second(alloc)?)?;
+    plan.volumes.push(volume_with(alloc, &HELLO)?)?;
     Ok(plan)
 }

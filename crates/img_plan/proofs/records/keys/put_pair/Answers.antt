@@ -1,6 +1,6 @@
 use Rattle.std.proofs.Common.{arith, ◌∙◌}
 use Rattle.img_plan.proofs.Kept.{u64_before}
-use Rattle.img_plan.proofs.records.ranges.put_pair.Goals as goal
+use Rattle.img_plan.proofs.records.keys.put_pair.Goals as goal
 
 pub returns : goal.returns
 returns c = record {
