@@ -2,7 +2,6 @@
 use cmd_words::Line::*;
 use cmd_words::{Flags, Line, Target, line_in};
 use std::alloc::{AllocError, Global};
-use std::process::Abort;
 
 // The words of a line.
 fn words(alloc: Global, text: &str) -> Result<Vec<String>, AllocError> {
@@ -13,17 +12,10 @@ fn words(alloc: Global, text: &str) -> Result<Vec<String>, AllocError> {
     Ok(words)
 }
 
-// Whether the words ask for this.
-fn ask_for(alloc: Global, words: &[String], wanted: Option<Line<'_>>) -> Result<bool, AllocError> {
-    Ok(line_in(alloc, words)? == wanted)
-}
-
-// Asserts that the words of a line ask for this.
-fn assert_asked(rt: &impl Abort, alloc: Global, text: &str, wanted: Option<Line<'_>>) {
-    let words = words(alloc, text).ok().expect(rt, "memory");
-    let as_said = ask_for(alloc, words.as_slice(), wanted);
-    drop(words);
-    assert!(rt; as_said == Ok(true), "{text}");
+// Whether the words of a line ask for this.
+fn ask_for(alloc: Global, text: &str, wanted: Option<Line<'_>>) -> Result<bool, AllocError> {
+    let words = words(alloc, text)?;
+    Ok(line_in(alloc, &words)? == wanted)
 }
 
 // A path in the volume and the snapshot that are meant.
@@ -91,7 +83,10 @@ const RIGHT: &[(&str, Line<'static>)] = table! {
 #[test]
 fn right_lines_say_their_parts(rt: HostRuntime) {
     for (text, line) in RIGHT {
-        assert_asked(&rt, rt.alloc(), text, Some(*line));
+        assert!(rt;
+            ask_for(rt.alloc(), text, Some(*line)) == Ok(true),
+            "{text}"
+        );
     }
 }
 
@@ -120,7 +115,10 @@ const ANYWHERE: &[(&str, Target<'static>)] = table! {
 #[test]
 fn options_stand_anywhere(rt: HostRuntime) {
     for (text, target) in ANYWHERE {
-        assert_asked(&rt, rt.alloc(), text, Some(Cat(PLAIN, *target)));
+        assert!(rt;
+            ask_for(rt.alloc(), text, Some(Cat(PLAIN, *target))) == Ok(true),
+            "{text}"
+        );
     }
 }
 
@@ -141,6 +139,6 @@ const WRONG: &str =
 #[test]
 fn wrong_words_are_no_line(rt: HostRuntime) {
     for text in WRONG.split(' ') {
-        assert_asked(&rt, rt.alloc(), text, None);
+        assert!(rt; ask_for(rt.alloc(), text, None) == Ok(true), "{text}");
     }
 }
