@@ -193,7 +193,7 @@ fn leaves_are_taken_by_the_nodes_above_them(rt: HostRuntime) {
 }
 
 // Blocks that are no roots of whole trees.
-const NOT_WHOLE: [u64; 4] = [1, 7, 8, 9];
+const NOT_WHOLE: &[u64] = &[1, 7, 8, 9];
 
 #[test]
 fn no_tree_is_told_whole_that_is_not(rt: HostRuntime) {
@@ -201,7 +201,7 @@ fn no_tree_is_told_whole_that_is_not(rt: HostRuntime) {
     let mut source = source(&rt, alloc);
     for root in NOT_WHOLE {
         assert!(rt;
-            leaves_below(&rt, alloc, &mut source, root).is_none(),
+            leaves_below(&rt, alloc, &mut source, *root).is_none(),
             "root {root}"
         );
     }

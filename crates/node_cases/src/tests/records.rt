@@ -59,13 +59,17 @@ fn stream_in(value: &[u8]) -> Result<Option<StreamSize>, RecFault> {
     Ok(inode(value)?.stream())
 }
 
+fn has_stream(alloc: Global, len: u8, padded: &[u8]) -> Result<bool, AllocError> {
+    Ok(stream_in(&inode_value(alloc, len, padded)?) == Ok(Some(STREAM)))
+}
+
 #[test]
 fn a_stream_is_found_after_a_padded_field(rt: HostRuntime) {
     for (len, padded) in PADDED {
-        let value = inode_value(rt.alloc(), *len, padded)
-            .ok()
-            .expect(&rt, "memory");
-        assert!(rt; stream_in(&value) == Ok(Some(STREAM)), "{len} bytes");
+        assert!(rt;
+            has_stream(rt.alloc(), *len, padded) == Ok(true),
+            "{len} bytes"
+        );
     }
 }
 
@@ -73,12 +77,8 @@ fn a_stream_is_found_after_a_padded_field(rt: HostRuntime) {
 fn is_inode(read: Result<Inode<'_>, RecFault>) -> bool {
     match read {
         Ok(inode) => {
-            inode.parent() == 2
-                && inode.private_id() == 16
-                && inode.links() == 1
-                && inode.bsd_flags() == 0x20
-                && inode.mode() == 0x8100
-                && inode.kind() == 8
+            (inode.parent(), inode.private_id(), inode.links()) == (2, 16, 1)
+                && (inode.bsd_flags(), inode.mode(), inode.kind()) == (0x20, 0x8100, 8)
                 && inode.stream() == Some(STREAM)
         }
         Err(_) => false,
@@ -94,7 +94,7 @@ fn an_inode_is_read(rt: HostRuntime) {
 }
 
 // How many of an inode's bytes there are, and its stream or why it is refused.
-const CUT_INODES: [(usize, Result<Option<StreamSize>, RecFault>); 5] = [
+const CUT_INODES: &[(usize, Result<Option<StreamSize>, RecFault>)] = &[
     (91, Err(RecFault::Length)),
     (92, Ok(None)),
     (95, Err(RecFault::Fields)),
@@ -108,8 +108,8 @@ fn an_inode_that_is_cut_is_refused(rt: HostRuntime) {
         .ok()
         .expect(&rt, "memory");
     for (len, stream) in CUT_INODES {
-        let cut = value.get(..len).unwrap_or(&[]);
-        assert!(rt; stream_in(cut) == stream, "{len} bytes");
+        let cut = value.get(..*len).unwrap_or(&[]);
+        assert!(rt; stream_in(cut) == *stream, "{len} bytes");
     }
 }
 
@@ -134,11 +134,9 @@ const UNNAMED_KEY: &[u8] = &[2, 0, 0, 0, 0, 0, 0, 0x90, 1, 0, 0];
 fn is_hello(read: Result<DirEntry<'_>, RecFault>, hash: u32) -> bool {
     match read {
         Ok(entry) => {
-            entry.name() == "hello"
-                && entry.hash() == hash
-                && entry.file_id() == 16
-                && entry.kind() == 8
-                && entry.sibling() == Some(18)
+            (entry.hash(), entry.file_id(), entry.kind(), entry.sibling())
+                == (hash, 16, 8, Some(18))
+                && entry.name() == "hello"
         }
         Err(_) => false,
     }
@@ -265,17 +263,16 @@ fn an_extent_is_read(rt: HostRuntime) {
 }
 
 // How many bytes an extent has, and how many blocks.
-const LENGTHS: [(u64, u64); 6] = [(0, 0), (1, 1), (4095, 1), (4096, 1), (4097, 2), (8192, 2)];
+const LENGTHS: &[(u64, u64)] = &[(0, 0), (1, 1), (4095, 1), (4096, 1), (4097, 2), (8192, 2)];
 
 #[test]
 fn an_extent_has_the_blocks_of_its_length(rt: HostRuntime) {
     for (length, wanted) in LENGTHS {
         let extent = FileExt {
-            logical: 0,
-            length,
-            block: 57,
+            length: *length,
+            ..EXTENT
         };
-        assert!(rt; extent.blocks(4096) == wanted);
+        assert!(rt; extent.blocks(4096) == *wanted);
     }
 }
 
