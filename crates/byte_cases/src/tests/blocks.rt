@@ -16,18 +16,14 @@ fn are_read(alloc: Global) -> Result<bool, Stop<()>> {
     Ok(into == [3, 4] && bytes.as_slice() == FOUR_TO_SIX)
 }
 
-#[test]
-fn blocks_are_read_by_number(rt: HostRuntime) {
-    assert!(rt; are_read(rt.alloc()) == Ok(true));
-}
-
 fn read_refused(alloc: Global) -> Result<Vec<u8>, Stop<()>> {
     let bytes = vec![in alloc; 1, 2]?;
     read_new(alloc, &mut MemSource::new(bytes, vec![in alloc; 1]?), 1, 1)
 }
 
 #[test]
-fn a_failed_read_is_carried(rt: HostRuntime) {
+fn blocks_are_read_by_number_and_a_failed_read_is_carried(rt: HostRuntime) {
+    assert!(rt; are_read(rt.alloc()) == Ok(true));
     assert!(rt; read_refused(rt.alloc()).err() == Some(Stop::ReadFault));
 }
 

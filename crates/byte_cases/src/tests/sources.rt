@@ -139,11 +139,16 @@ fn is_refused(rt: &HostRuntime, path: &str) -> Result<bool, Fail> {
     Ok((source.size(), four(&mut source, 0)) == (4, None))
 }
 
+// Whether all of that is so of the file at a path, which is removed.
+fn are_read(rt: &HostRuntime, path: &str) -> Result<bool, Fail> {
+    let are_read = is_cut(rt, path)? && is_read_far_out(rt, path)? && is_refused(rt, path)?;
+    fs::remove_file(rt, path)?;
+    Ok(are_read)
+}
+
 #[test]
 fn files_are_read_and_fail_as_they_should(rt: HostRuntime) -> Result<(), Fail> {
-    let path = place_of(&rt, "blk_source")?;
-    assert!(rt; is_cut(&rt, &path)? && is_read_far_out(&rt, &path)? && is_refused(&rt, &path)?);
-    fs::remove_file(&rt, &path)?;
+    assert!(rt; are_read(&rt, &place_of(&rt, "blk_source")?)?);
     Ok(())
 }
 
