@@ -119,11 +119,6 @@ fn is_resolved(alloc: Global) -> Result<bool, Stop<OmapFault>> {
     Ok(is_right)
 }
 
-#[test]
-fn a_map_resolves_by_oid_and_transaction(rt: HostRuntime) {
-    assert!(rt; is_resolved(rt.alloc()) == Ok(true));
-}
-
 // A map with two snapshots, whose tree is in block 5.
 const WITH_SNAPSHOTS: Map = Map {
     snap_count: 2,
@@ -168,7 +163,8 @@ fn is_of_two_levels(alloc: Global) -> Result<bool, Stop<OmapFault>> {
 }
 
 #[test]
-fn a_map_of_two_levels_with_snapshots(rt: HostRuntime) {
+fn maps_of_one_level_and_of_two_with_snapshots(rt: HostRuntime) {
+    assert!(rt; is_resolved(rt.alloc()) == Ok(true));
     assert!(rt; is_of_two_levels(rt.alloc()) == Ok(true));
 }
 

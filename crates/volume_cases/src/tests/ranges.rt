@@ -65,11 +65,6 @@ fn has_shared_alone(alloc: Global) -> Result<bool, Stop<ExtStop>> {
     Ok(scan.steps.len() == 0 && scan.ranges.as_slice() == SHARED_ALONE)
 }
 
-#[test]
-fn a_shared_block_is_one_range(rt: HostRuntime) {
-    assert!(rt; has_shared_alone(rt.alloc()) == Ok(true));
-}
-
 // How many ranges there are without a tree.
 fn ranges_of_none(alloc: Global) -> Result<usize, Stop<ExtStop>> {
     let mut src = shared(alloc, &[1])?;
@@ -79,21 +74,16 @@ fn ranges_of_none(alloc: Global) -> Result<usize, Stop<ExtStop>> {
     Ok(new_ranges(alloc, &mut src, 0, &SITE)?.len())
 }
 
-#[test]
-fn no_tree_has_no_ranges(rt: HostRuntime) {
-    assert!(rt; ranges_of_none(rt.alloc()) == Ok(0));
-}
-
 // The container has no block 256.
 const UNNAMED: Stop<ExtStop> = Stop::Found(ExtStop::Walk(WalkFault::Unnamed { oid: 256 }));
 
 #[test]
-fn what_stops_a_scan(rt: HostRuntime) {
+fn a_shared_block_is_one_range_and_what_stops_a_scan(rt: HostRuntime) {
     let alloc = rt.alloc();
-    assert!(rt;
-        scanned(alloc, 256, &[]).err() == Some(UNNAMED)
-            && scanned(alloc, 55, &[1]).err() == Some(Stop::ReadFault)
-    );
+    assert!(rt; has_shared_alone(alloc) == Ok(true));
+    assert!(rt; ranges_of_none(alloc) == Ok(0));
+    assert!(rt; scanned(alloc, 256, &[]).err() == Some(UNNAMED));
+    assert!(rt; scanned(alloc, 55, &[1]).err() == Some(Stop::ReadFault));
 }
 
 // Ranges that meet, overlap or hold one another, one without a block, and one that passes the greatest number.

@@ -143,16 +143,6 @@ fn has_small_in_large(alloc: Global) -> Result<bool, Stop<VolStop>> {
 // The volume's flags become 0.
 const NO_FLAGS: &[Edit] = &[(SUPER, 264, 0)];
 
-#[test]
-fn the_small_volume(rt: HostRuntime) {
-    let alloc = rt.alloc();
-    assert!(rt;
-        has_small_after(alloc, &[]) == Ok(true)
-            && has_small_after(alloc, NO_FLAGS) == Ok(true)
-            && has_small_in_large(alloc) == Ok(true)
-    );
-}
-
 fn is_first(head: &VolHead) -> bool {
     (head.slot, head.oid, head.block) == (0, 1026, 51)
         && (head.role, head.incompat, head.snapshots) == (0x40, 1, 0)
@@ -172,8 +162,12 @@ fn has_two(alloc: Global) -> Result<bool, Stop<VolStop>> {
 }
 
 #[test]
-fn two_volumes_with_an_empty_slot_between(rt: HostRuntime) {
-    assert!(rt; has_two(rt.alloc()) == Ok(true));
+fn the_small_volume_and_two_with_an_empty_slot_between(rt: HostRuntime) {
+    let alloc = rt.alloc();
+    assert!(rt; has_small_after(alloc, &[]) == Ok(true));
+    assert!(rt; has_small_after(alloc, NO_FLAGS) == Ok(true));
+    assert!(rt; has_small_in_large(alloc) == Ok(true));
+    assert!(rt; has_two(alloc) == Ok(true));
 }
 
 // The reads of the small container's heads, where the read of a number fails, if any does.

@@ -93,12 +93,6 @@ fn is_loaded(alloc: Global, edits: &[Edit]) -> Result<bool, Stop<VolStop>> {
 // Of a snapshot's superblock neither the reserved number nor the types of its physical trees are looked at.
 const NEAR_MISSES: &[Edit] = &[(FIRST, 1048, 1), (FIRST, 123, 0), (FIRST, 160, 1)];
 
-#[test]
-fn a_volume_with_two_snapshots(rt: HostRuntime) {
-    let alloc = rt.alloc();
-    assert!(rt; is_loaded(alloc, &[]) == Ok(true) && is_loaded(alloc, NEAR_MISSES) == Ok(true));
-}
-
 fn has_none(alloc: Global) -> Result<bool, Stop<VolStop>> {
     let found = loaded(alloc, edited(alloc, Sample::S, &[], true)?)?;
     let none = found.0.snaps.len() == 0 && by_name(&found.0, b"s2") == None;
@@ -107,8 +101,11 @@ fn has_none(alloc: Global) -> Result<bool, Stop<VolStop>> {
 }
 
 #[test]
-fn the_small_volume_has_none(rt: HostRuntime) {
-    assert!(rt; has_none(rt.alloc()) == Ok(true));
+fn a_volume_with_two_snapshots_and_one_with_none(rt: HostRuntime) {
+    let alloc = rt.alloc();
+    assert!(rt; is_loaded(alloc, &[]) == Ok(true));
+    assert!(rt; is_loaded(alloc, NEAR_MISSES) == Ok(true));
+    assert!(rt; has_none(alloc) == Ok(true));
 }
 
 // What stops the volume after an edit.
