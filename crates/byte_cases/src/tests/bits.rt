@@ -2,7 +2,7 @@
 use bit_lanes::{and_any, and_into, count_ones, first_difference, least_set, or_into, set_range};
 
 // Bytes, and how many of their bits are set.
-const COUNTS: [(&[u8], u64); 5] = [
+const COUNTS: &[(&[u8], u64)] = &[
     (&[], 0),
     (&[0xff, 0xff, 0xff], 24),
     (&[0x01, 0x80, 0x55], 6),
@@ -13,7 +13,7 @@ const COUNTS: [(&[u8], u64); 5] = [
 #[test]
 fn counts(rt: HostRuntime) {
     for (bytes, want) in COUNTS {
-        assert!(rt; count_ones(bytes) == want, "{bytes:?}");
+        assert!(rt; count_ones(bytes) == *want, "{want}");
     }
 }
 
@@ -43,16 +43,17 @@ const LONG_DIFFERENCES: &[(Long, Long, Option<usize>)] = &[
     ((0, 129, 0x80), (0, 129, 0x80), None),
 ];
 
+fn differ_at(a: &[u8], b: &[u8], want: Option<usize>) -> bool {
+    a.len() == b.len() && a.len() < 1000 && first_difference(a, b) == want
+}
+
 #[test]
 fn least_differences(rt: HostRuntime) {
-    for (a, b, want) in DIFFERENCES {
-        assert!(rt;
-            a.len() == b.len() && a.len() < 1000 && first_difference(a, b) == *want,
-            "{want:?}"
-        );
+    for (i, (a, b, want)) in DIFFERENCES.iter().enumerate() {
+        assert!(rt; differ_at(a, b, *want), "row {i}");
     }
-    for (a, b, want) in LONG_DIFFERENCES {
-        assert!(rt; first_difference(&long(*a), &long(*b)) == *want, "{want:?}");
+    for (i, (a, b, want)) in LONG_DIFFERENCES.iter().enumerate() {
+        assert!(rt; differ_at(&long(*a), &long(*b), *want), "long row {i}");
     }
 }
 
@@ -74,19 +75,29 @@ const SHARED: &[(&[u8], &[u8], bool)] = &[
 ];
 
 // The same of 130 bytes of which each is 1.
+const ONES: &[u8] = &[0x01; 130];
+
 const SHARED_WITH_ONES: &[(Long, bool)] = &[
     ((0x06, 0, 0x06), false),
     ((0x06, 70, 0x07), true),
     ((0x06, 128, 0x07), true),
 ];
 
+fn share(a: &[u8], b: &[u8]) -> Option<bool> {
+    if a.len() == b.len() {
+        Some(and_any(a, b))
+    } else {
+        None
+    }
+}
+
 #[test]
 fn shared_bits(rt: HostRuntime) {
-    for (a, b, want) in SHARED {
-        assert!(rt; a.len() == b.len() && and_any(a, b) == *want, "{a:?}");
+    for (i, (a, b, want)) in SHARED.iter().enumerate() {
+        assert!(rt; share(a, b) == Some(*want), "row {i}");
     }
-    for (b, want) in SHARED_WITH_ONES {
-        assert!(rt; and_any(&[0x01; 130], &long(*b)) == *want, "{b:?}");
+    for (i, (b, want)) in SHARED_WITH_ONES.iter().enumerate() {
+        assert!(rt; share(ONES, &long(*b)) == Some(*want), "long row {i}");
     }
 }
 
@@ -107,19 +118,35 @@ const LEAST: &[(usize, usize, Option<usize>)] = &[
     (633, 640, None),
 ];
 
+// Where bits are set, and bytes that stand from a place up to another afterwards.
+const RANGES: &[(usize, usize, usize, usize, &[u8])] = &[
+    (5, 5, 0, 80, &[0x00; 80]),
+    (5, 19, 0, 4, &[0xe0, 0xff, 0x07, 0x00]),
+    (630, 633, 77, 80, &[0x00, 0xc0, 0x01]),
+];
+
+fn are_set(bits: &mut [u8; 80]) -> bool {
+    for (from, to, first, end, bytes) in RANGES {
+        if from > to || *to > 640 {
+            return false;
+        }
+        set_range(bits, *from, *to);
+        if bits.get(*first..*end) != Some(*bytes) {
+            return false;
+        }
+    }
+    true
+}
+
+fn is_least(bits: &[u8; 80], from: usize, to: usize, want: Option<usize>) -> bool {
+    from <= to && to <= 640 && least_set(bits, from, to) == want
+}
+
 #[test]
 fn bits_from_a_place_up_to_another(rt: HostRuntime) {
     let mut bits = [0; 80];
-    set_range(&mut bits, 5, 5);
-    assert!(rt; bits == [0x00; 80]);
-    set_range(&mut bits, 5, 19);
-    assert!(rt; &bits[..4] == [0xe0, 0xff, 0x07, 0x00].as_slice());
-    set_range(&mut bits, 630, 633);
-    assert!(rt; &bits[77..] == [0x00, 0xc0, 0x01].as_slice());
+    assert!(rt; are_set(&mut bits));
     for (from, to, want) in LEAST {
-        assert!(rt;
-            from <= to && *to <= 640 && least_set(&bits, *from, *to) == *want,
-            "{from} {to}"
-        );
+        assert!(rt; is_least(&bits, *from, *to, *want), "{from} {to}");
     }
 }

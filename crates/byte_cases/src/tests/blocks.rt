@@ -5,27 +5,26 @@ use blk_read::{read_block, read_new, read_sound};
 use blk_source::{MemSource, SureSource};
 use obj_base::{Expect, HeadFault, Site, Stop, Unsound};
 use std::alloc::Global;
-use std::test::Fail;
 
-#[test]
-fn blocks_are_read_by_number(rt: HostRuntime) -> Result<(), Fail> {
-    let mut source = SureSource::new(vec![in rt.alloc(); 1, 2, 3, 4, 5, 6, 7]?);
+const FOUR_TO_SIX: &[u8] = &[4, 5, 6];
+
+fn are_read(alloc: Global) -> Result<bool, Stop<()>> {
+    let mut source = SureSource::new(vec![in alloc; 1, 2, 3, 4, 5, 6, 7]?);
     let mut into = [0u8; 2];
     read_block(&mut source, 1, &mut into)?;
-    assert!(rt; into == [3, 4]);
-    let bytes: Result<Vec<u8>, Stop<()>> = read_new(rt.alloc(), &mut source, 1, 3);
-    let bytes = bytes.ok().expect(&rt, "no bytes");
-    assert!(rt; bytes.as_slice() == [4, 5, 6].as_slice());
-    Ok(())
+    let bytes: Vec<u8> = read_new(alloc, &mut source, 1, 3)?;
+    Ok(into == [3, 4] && bytes.as_slice() == FOUR_TO_SIX)
+}
+
+fn read_refused(alloc: Global) -> Result<Vec<u8>, Stop<()>> {
+    let bytes = vec![in alloc; 1, 2]?;
+    read_new(alloc, &mut MemSource::new(bytes, vec![in alloc; 1]?), 1, 1)
 }
 
 #[test]
-fn a_failed_read_is_carried(rt: HostRuntime) -> Result<(), Fail> {
-    let alloc = rt.alloc();
-    let mut source = MemSource::new(vec![in alloc; 1, 2]?, vec![in alloc; 1]?);
-    let bytes: Result<Vec<u8>, Stop<()>> = read_new(alloc, &mut source, 1, 1);
-    assert!(rt; matches!(bytes, Err(Stop::ReadFault)));
-    Ok(())
+fn blocks_are_read_by_number_and_a_failed_read_is_carried(rt: HostRuntime) {
+    assert!(rt; are_read(rt.alloc()) == Ok(true));
+    assert!(rt; read_refused(rt.alloc()).err() == Some(Stop::ReadFault));
 }
 
 // The header of the object map with oid 1 of transaction 5 in a block of 4,096 bytes that is otherwise zero. Its sum was
@@ -34,6 +33,12 @@ const HEADER: [u8; 36] = [
     72, 187, 255, 63, 166, 68, 0, 128, 1, 0, 0, 0, 0, 0, 0, 0, 5, 0, 0, 0, 0, 0, 0, 0, 11, 0, 0,
     64, 0, 0, 0, 0, 0, 0, 0, 0,
 ];
+
+const SITE: Site = Site {
+    block_size: 4096,
+    blocks: 2,
+    max_xid: 5,
+};
 
 // The length of the object in a block of an image of two blocks, the second with that header, or why it is refused.
 fn judge(
@@ -46,18 +51,13 @@ fn judge(
 {
     let mut image = vec![in alloc; 0u8; 8192]?;
     image[4096..4132].copy_from_slice(&HEADER);
-    let site = Site {
-        block_size: 4096,
-        blocks: 2,
-        max_xid: 5,
-    };
     let expect = Expect {
         kind,
         subtype: None,
         oid,
         max_xid: 5,
     };
-    let object = read_sound(alloc, &mut SureSource::new(image), &site, block, &expect)?;
+    let object = read_sound(alloc, &mut SureSource::new(image), &SITE, block, &expect)?;
     Ok(object.len())
 }
 
@@ -79,7 +79,7 @@ type Judged = (
     Result<usize, Stop<Unsound<HeadFault>>>,
 );
 
-const JUDGED: [Judged; 5] = [
+const JUDGED: &[Judged] = &[
     (1, 0xb, Some(1), Ok(4096)),
     (1, 0xb, None, Ok(4096)),
     (1, 0xc, Some(1), refused!(1, HeadFault::BadKind)),
@@ -90,6 +90,6 @@ const JUDGED: [Judged; 5] = [
 #[test]
 fn an_object_is_judged_where_it_stands(rt: HostRuntime) {
     for (block, kind, oid, wanted) in JUDGED {
-        assert!(rt; block < 2 && judge(rt.alloc(), block, kind, oid) == wanted);
+        assert!(rt; *block < 2 && judge(rt.alloc(), *block, *kind, *oid) == *wanted);
     }
 }

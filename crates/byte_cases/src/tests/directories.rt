@@ -102,16 +102,10 @@ const CASES: &[Case] = table! {
     REACHED, Some("dir/"), &[Makes("x")], &[("dir/x", Directory)];
 };
 
-// What is wrong with a case: a call that doesn't go as it has to, a call after which other files are open, files that are open at
-// the end, a row that doesn't stand, or the number of entries.
+// What is wrong with a case, and the number of what it is said of: a call that doesn't go as it has to, or after which other files are
+// open, files that are open at the end, a row that doesn't stand, or the number of entries.
 #[derive(Debug, Drop)]
-enum Wrong {
-    Call(usize),
-    Open(usize),
-    Left(usize),
-    Row(usize),
-    Entries(usize),
-}
+struct Wrong(&'static str, usize);
 
 fn path_in(alloc: Global, top: &str, path: &str) -> Result<String, AllocError> {
     format!(in alloc; "{top}/{path}")
@@ -156,10 +150,13 @@ fn entries(rt: &HostRuntime, dir: &str) -> io::Result<usize> {
     Ok(fs::read_dir(rt, dir)?.count())
 }
 
-// How many entries a thing at a path has.
-fn entries_of(rt: &HostRuntime, at: &str, thing: Thing) -> io::Result<usize> {
+// How many entries a thing at a path has, which has to stand.
+fn entries_of(rt: &HostRuntime, at: &str, thing: Thing, row: usize) -> Result<usize, Fail> {
+    if !stands(rt, at, thing)? {
+        return Err(Wrong("row", row))?;
+    }
     match thing {
-        Directory => entries(rt, at),
+        Directory => Ok(entries(rt, at)?),
         File(_) | Link(_) => Ok(0),
     }
 }
@@ -169,10 +166,7 @@ fn entries_in(rt: &HostRuntime, top: &str, rows: &[Row]) -> Result<usize, Fail> 
     let mut sum = 0usize;
     for (i, (path, thing)) in rows.iter().enumerate() {
         let at = path_in(rt.alloc(), top, path)?;
-        if !stands(rt, &at, *thing)? {
-            return Err(Wrong::Row(i))?;
-        }
-        sum = sum.saturating_add(entries_of(rt, &at, *thing)?);
+        sum = sum.saturating_add(entries_of(rt, &at, *thing, i)?);
     }
     Ok(sum)
 }
@@ -214,29 +208,21 @@ fn call_all<F: Folder>(
     calls: &[Call],
 ) -> Result<(), Fail> {
     for (i, call) in calls.iter().enumerate() {
-        if !goes(folder, *call) {
-            return Err(Wrong::Call(i))?;
-        }
-        if entries(rt, OPEN)? != before.saturating_add(opened(*call)) {
-            return Err(Wrong::Open(i))?;
+        let went = goes(folder, *call);
+        let open = entries(rt, OPEN)?;
+        if !went || open != before.saturating_add(opened(*call)) {
+            return Err(Wrong("call", i))?;
         }
     }
     Ok(())
 }
 
-// Fills a directory, after which nothing more is open than before.
-fn fill(rt: &HostRuntime, dir: String, calls: &[Call]) -> Result<(), Fail> {
-    let before = entries(rt, OPEN)?;
+// Fills a directory, before which so many files are open.
+fn fill(rt: &HostRuntime, dir: String, before: usize, calls: &[Call]) -> Result<(), Fail> {
     let mut folder = DirFolder::new(rt, dir);
     let called = call_all(rt, &mut folder, before, calls);
     drop(folder);
-    called?;
-    let left = entries(rt, OPEN)?;
-    if left == before {
-        Ok(())
-    } else {
-        Err(Wrong::Left(left))?
-    }
+    called
 }
 
 // The directory that is filled.
@@ -247,37 +233,40 @@ fn dir_of(alloc: Global, top: &str, into: Option<&str>) -> Result<String, AllocE
     }
 }
 
-// Makes what stands in a case, and fills the directory.
-fn make(rt: &HostRuntime, top: &str, case: &Case) -> Result<(), Fail> {
-    let (standing, into, calls, _) = *case;
-    fs::create_dir(rt, top)?;
-    place_all(rt, top, standing)?;
-    fill(rt, dir_of(rt.alloc(), top, into)?, calls)
-}
-
-// How many entries there are, all of which have to be those of a case.
-fn found(rt: &HostRuntime, top: &str, case: &Case) -> Result<usize, Fail> {
-    let (standing, _, _, put) = *case;
-    let stood = entries_in(rt, top, standing)?;
-    let came = entries_in(rt, top, put)?;
-    Ok(entries(rt, top)?.saturating_add(stood).saturating_add(came))
-}
-
-// Fills the folder of a case. Afterwards all that stood and all that was put is there, and no other entry.
-fn run(rt: &HostRuntime, top: &str, case: &Case) -> Result<(), Fail> {
-    make(rt, top, case)?;
-    let found = found(rt, top, case)?;
-    let (standing, _, _, put) = *case;
-    if found != standing.len().saturating_add(put.len()) {
-        return Err(Wrong::Entries(found))?;
+// Fills the directory of a case, after which nothing more is open than before.
+fn fill_case(rt: &HostRuntime, top: &str, case: &Case) -> Result<(), Fail> {
+    let before = entries(rt, OPEN)?;
+    fill(rt, dir_of(rt.alloc(), top, case.1)?, before, case.2)?;
+    let left = entries(rt, OPEN)?;
+    if left != before {
+        return Err(Wrong("left", left))?;
     }
+    Ok(())
+}
+
+// Looks whether all that stood and all that was put is there, and no other entry.
+fn look(rt: &HostRuntime, top: &str, case: &Case) -> Result<(), Fail> {
+    let found = entries(rt, top)?
+        .saturating_add(entries_in(rt, top, case.0)?)
+        .saturating_add(entries_in(rt, top, case.3)?);
+    if found != case.0.len().saturating_add(case.3.len()) {
+        return Err(Wrong("entries", found))?;
+    }
+    Ok(())
+}
+
+// Makes what stands in a case, fills its folder, and looks at it.
+fn run(rt: &HostRuntime, top: &str, case: &Case) -> Result<(), Fail> {
+    fs::create_dir(rt, top)?;
+    place_all(rt, top, case.0)?;
+    fill_case(rt, top, case)?;
+    look(rt, top, case)?;
     Ok(fs::remove_dir_all(rt, top)?)
 }
 
-// Where the folder of a case stands.
-fn top_of(rt: &HostRuntime, i: usize) -> Result<String, Fail> {
-    let number = process::id(rt.process());
-    let below = format!(in rt.alloc(); "byte_cases.{number}.{i}")?;
+// Where a test has its files.
+pub(super) fn place_of(rt: &HostRuntime, name: &str) -> Result<String, Fail> {
+    let below = format!(in rt.alloc(); "{name}.{}", process::id(rt.process()))?;
     Ok(
         env::temp_dir(rt)?
             .join(rt.alloc(), below.as_str())?
@@ -287,8 +276,8 @@ fn top_of(rt: &HostRuntime, i: usize) -> Result<String, Fail> {
 
 #[test]
 fn real_directories_get_what_is_put_and_nothing_else(rt: HostRuntime) -> Result<(), Fail> {
-    for (i, case) in CASES.iter().enumerate() {
-        let top = top_of(&rt, i)?;
+    let top = place_of(&rt, "byte_cases")?;
+    for case in CASES {
         run(&rt, &top, case)?;
     }
     Ok(())

@@ -13,17 +13,10 @@ fn words(alloc: Global, text: &str) -> Result<Vec<String>, AllocError> {
     Ok(words)
 }
 
-// Whether the words ask for this.
-fn ask_for(alloc: Global, words: &[String], wanted: Option<Line<'_>>) -> Result<bool, AllocError> {
-    Ok(line_in(alloc, words)? == wanted)
-}
-
-// Asserts that the words of a line ask for this.
-fn assert_asked(rt: &impl Abort, alloc: Global, text: &str, wanted: Option<Line<'_>>) {
-    let words = words(alloc, text).ok().expect(rt, "memory");
-    let as_said = ask_for(alloc, words.as_slice(), wanted);
-    drop(words);
-    assert!(rt; as_said == Ok(true), "{text}");
+// Whether the words of a line ask for this.
+fn ask_for(alloc: Global, text: &str, wanted: Option<Line<'_>>) -> Result<bool, AllocError> {
+    let words = words(alloc, text)?;
+    Ok(line_in(alloc, &words)? == wanted)
 }
 
 // A path in the volume and the snapshot that are meant.
@@ -50,14 +43,17 @@ macro_rules! said {
 // Neither flag was said.
 const PLAIN: Flags = said!(false, false);
 
-// A table of tuples: a row is the parts of one, and ends with a semicolon.
-macro_rules! table {
-    ($($($part:expr),+;)*) => {
-        &[$(($($part),+)),*]
+// The words of a line, and the line.
+type Row = (&'static str, Option<Line<'static>>);
+
+// A table of these: a row has the words and the parts of the line, and ends with a semicolon.
+macro_rules! lines {
+    ($($text:expr, $line:expr;)*) => {
+        &[$(($text, Some($line))),*]
     };
 }
 
-const RIGHT: &[(&str, Line<'static>)] = table! {
+const RIGHT: &[Row] = lines! {
     "ring|img", Ring;
     "info|img", Info;
     "volumes|--help", Volumes;
@@ -88,59 +84,65 @@ const RIGHT: &[(&str, Line<'static>)] = table! {
     "xattr|img|--volume=1|a|--snapshot|s|n", Xattr(PLAIN, at!("a", Some(1), Some("s")), Some("n"));
 };
 
-#[test]
-fn right_lines_say_their_parts(rt: HostRuntime) {
-    for (text, line) in RIGHT {
-        assert_asked(&rt, rt.alloc(), text, Some(*line));
-    }
-}
-
-const ANYWHERE: &[(&str, Target<'static>)] = table! {
-    "cat|img|a|--volume|3", at!("a", Some(3), None);
-    "cat|img|--volume=0|a", at!("a", Some(0), None);
-    "cat|img|a|--volume=10", at!("a", Some(10), None);
-    "cat|img|--snapshot|s|--volume|99|a", at!("a", Some(99), Some("s"));
-    "cat|img|a|--snapshot=", at!("a", None, Some(""));
-    "cat|img|a|--snapshot|", at!("a", None, Some(""));
-    "cat|img|a|--snapshot=-x", at!("a", None, Some("-x"));
-    "cat|img|a|--snapshot=--volume=3", at!("a", None, Some("--volume=3"));
-    "cat|img|a|--snapshot=a=b", at!("a", None, Some("a=b"));
-    "cat|img|a|--snapshot|-", at!("a", None, Some("-"));
-    "cat|img|a|--snapshot=-é", at!("a", None, Some("-é"));
-    "cat|img|--|-a", at!("-a", None, None);
-    "cat|img|--|--", at!("--", None, None);
-    "cat|img|--|--help", at!("--help", None, None);
-    "cat|img|--|--quick", at!("--quick", None, None);
-    "cat|img|a|--snapshot=--quick", at!("a", None, Some("--quick"));
-    "cat|img|--volume=3|--|--volume=4", at!("--volume=4", Some(3), None);
-    "cat|img|a|--", at!("a", None, None);
-    "cat|img|-", at!("-", None, None);
+const ANYWHERE: &[Row] = lines! {
+    "cat|img|a|--volume|3", Cat(PLAIN, at!("a", Some(3), None));
+    "cat|img|--volume=0|a", Cat(PLAIN, at!("a", Some(0), None));
+    "cat|img|a|--volume=10", Cat(PLAIN, at!("a", Some(10), None));
+    "cat|img|--snapshot|s|--volume|99|a", Cat(PLAIN, at!("a", Some(99), Some("s")));
+    "cat|img|a|--snapshot=", Cat(PLAIN, at!("a", None, Some("")));
+    "cat|img|a|--snapshot|", Cat(PLAIN, at!("a", None, Some("")));
+    "cat|img|a|--snapshot=-x", Cat(PLAIN, at!("a", None, Some("-x")));
+    "cat|img|a|--snapshot=--volume=3", Cat(PLAIN, at!("a", None, Some("--volume=3")));
+    "cat|img|a|--snapshot=a=b", Cat(PLAIN, at!("a", None, Some("a=b")));
+    "cat|img|a|--snapshot|-", Cat(PLAIN, at!("a", None, Some("-")));
+    "cat|img|a|--snapshot=-é", Cat(PLAIN, at!("a", None, Some("-é")));
+    "cat|img|--|-a", Cat(PLAIN, at!("-a", None, None));
+    "cat|img|--|--", Cat(PLAIN, at!("--", None, None));
+    "cat|img|--|--help", Cat(PLAIN, at!("--help", None, None));
+    "cat|img|--|--quick", Cat(PLAIN, at!("--quick", None, None));
+    "cat|img|a|--snapshot=--quick", Cat(PLAIN, at!("a", None, Some("--quick")));
+    "cat|img|--volume=3|--|--volume=4", Cat(PLAIN, at!("--volume=4", Some(3), None));
+    "cat|img|a|--", Cat(PLAIN, at!("a", None, None));
+    "cat|img|-", Cat(PLAIN, at!("-", None, None));
 };
 
-#[test]
-fn options_stand_anywhere(rt: HostRuntime) {
-    for (text, target) in ANYWHERE {
-        assert_asked(&rt, rt.alloc(), text, Some(Cat(PLAIN, *target)));
+// Words of no line. The first has no word.
+macro_rules! wrong {
+    ($($text:expr;)*) => {
+        &[$(($text, None)),*]
+    };
+}
+
+const WRONG: &[Row] = wrong! {
+    ""; "help"; "--help"; "--help|img"; "ls"; "ring"; "export|img"; "export|img|dir|/"; "export|img|dir|--quick";
+    "export|img|dir|--strict"; "export|img|dir|--volume=x"; "export|img|--volume|3"; "export|img|dir|--snapshot=s|--snapshot=s";
+    "RING|img"; "rings|img"; "ring|img|a"; "ring|img|--"; "check|img|--quick"; "check|img|a"; "check|img|--strict=true";
+    "check|img|--strict|--strict"; "ring|img|--strict"; "info|img|--quick"; "volumes|img|--strict"; "space|img|--strict"; "gen|3";
+    "LS|img|a"; "lsx|img|a"; "ls|img"; "ls|img|a|b"; "ls|img|a|--quick=1"; "ls|img|a|--quick="; "ls|img|a|--quick|1";
+    "ls|img|a|--quick|--quick"; "ls|img|a|--strict|--quick|--strict"; "ls|img|a|--snapshot|--quick"; "ls|img|a|-q"; "ls|img|--quick";
+    "cat|img|--"; "cat|img|a|--|b"; "cat|img|a|--volume=07"; "cat|img|a|--volume=100"; "cat|img|a|--volume=+3"; "cat|img|a|--volume=";
+    "cat|img|a|--volume|"; "cat|img|a|--volume"; "cat|img|a|--vol=3"; "cat|img|a|-v|3"; "cat|img|a|--volume=3|--volume=3";
+    "cat|img|a|--volume|3|--volume=3"; "cat|img|a|--snapshot=x|--snapshot|y"; "cat|img|a|--snapshot|-x";
+    "cat|img|a|--snapshot|--volume=3"; "cat|img|a|--snapshot|--|x"; "cat|img|-a"; "cat|img|-1"; "cat|img|---"; "cat|img|--=x";
+    "cat|img|a|-h"; "cat|img|a|--help"; "cat|img|a|-V"; "cat|img|a|--version"; "xattr|img|a|n|m"; "snapshots|img|a";
+    "snapshots|img|--strict"; "snapshots|img|--snapshot=a"; "usage"; "usage|img|1"; "usage|img|--volume=100"; "usage|img|--snapshot=a";
+    "usage|img|--strict"; "usage|img|--quick";
+};
+
+// Asserts that words ask for the lines of a table.
+fn assert_lines(rt: &impl Abort, alloc: Global, rows: &[Row]) {
+    for (text, line) in rows {
+        assert!(rt; ask_for(alloc, text, *line) == Ok(true), "{text}");
     }
 }
 
-// Lines, parted by spaces. The first has no word.
-const WRONG: &str =
-    " help --help --help|img ls ring export|img export|img|dir|/ export|img|dir|--quick export|img|dir|--strict \
-    export|img|dir|--volume=x export|img|--volume|3 export|img|dir|--snapshot=s|--snapshot=s RING|img rings|img ring|img|a \
-    ring|img|-- check|img|--quick check|img|a check|img|--strict=true check|img|--strict|--strict ring|img|--strict info|img|--quick \
-    volumes|img|--strict space|img|--strict gen|3 LS|img|a lsx|img|a ls|img ls|img|a|b ls|img|a|--quick=1 ls|img|a|--quick= \
-    ls|img|a|--quick|1 ls|img|a|--quick|--quick ls|img|a|--strict|--quick|--strict ls|img|a|--snapshot|--quick ls|img|a|-q \
-    ls|img|--quick cat|img|-- cat|img|a|--|b cat|img|a|--volume=07 cat|img|a|--volume=100 cat|img|a|--volume=+3 cat|img|a|--volume= \
-    cat|img|a|--volume| cat|img|a|--volume cat|img|a|--vol=3 cat|img|a|-v|3 cat|img|a|--volume=3|--volume=3 \
-    cat|img|a|--volume|3|--volume=3 cat|img|a|--snapshot=x|--snapshot|y cat|img|a|--snapshot|-x cat|img|a|--snapshot|--volume=3 \
-    cat|img|a|--snapshot|--|x cat|img|-a cat|img|-1 cat|img|--- cat|img|--=x cat|img|a|-h cat|img|a|--help cat|img|a|-V \
-    cat|img|a|--version xattr|img|a|n|m snapshots|img|a snapshots|img|--strict snapshots|img|--snapshot=a usage usage|img|1 \
-    usage|img|--volume=100 usage|img|--snapshot=a usage|img|--strict usage|img|--quick";
+#[test]
+fn right_lines_say_their_parts_and_options_stand_anywhere(rt: HostRuntime) {
+    assert_lines(&rt, rt.alloc(), RIGHT);
+    assert_lines(&rt, rt.alloc(), ANYWHERE);
+}
 
 #[test]
 fn wrong_words_are_no_line(rt: HostRuntime) {
-    for text in WRONG.split(' ') {
-        assert_asked(&rt, rt.alloc(), text, None);
-    }
+    assert_lines(&rt, rt.alloc(), WRONG);
 }

@@ -1,6 +1,6 @@
 // Lists in order with what is found in them, whatever the guess.
 use id_lists::{ByItself, IdList, IdSlice, NO_GUESS, are_in_order, below, count, distinct};
-use std::alloc::Global;
+use std::alloc::{AllocError, Global};
 use std::process::Abort;
 
 /// A list, an id, how many items are below it, its place, and how many items are of it.
@@ -41,18 +41,30 @@ const ROWS: &[Row] = &[
     (SPARSE, u64::MAX, 8, Some(8), 1),
 ];
 
-const GUESSES: [usize; 4] = [NO_GUESS, 0, 3, 8];
+const GUESSES: &[usize] = &[NO_GUESS, 0, 3, 8];
+
+// Whether an id is found in a list as a row says, whatever the guess.
+fn is_searched(row: &Row) -> bool {
+    let (list, id, before, _, of_it) = *row;
+    if !are_in_order::<_, ByItself>(list) {
+        return false;
+    }
+    for guess in GUESSES {
+        let found = (
+            below::<_, ByItself>(list, id, *guess),
+            count::<_, ByItself>(list, id, *guess),
+        );
+        if found != (before, of_it) {
+            return false;
+        }
+    }
+    true
+}
 
 #[test]
 fn searches(rt: HostRuntime) {
-    for (list, id, before, _, of_it) in ROWS {
-        assert!(rt; are_in_order::<_, ByItself>(list));
-        for guess in GUESSES {
-            assert!(rt;
-                below::<_, ByItself>(list, *id, guess) == *before
-                    && count::<_, ByItself>(list, *id, guess) == *of_it
-            );
-        }
+    for (i, row) in ROWS.iter().enumerate() {
+        assert!(rt; is_searched(row), "row {i}");
     }
 }
 
@@ -63,32 +75,30 @@ fn put_back(list: &mut IdList<u64, ByItself>, id: u64) {
     }
 }
 
-// Whether a list is this one, and an id is found in it as a row says, also after it is put back.
-fn is_made(
-    made: &mut IdList<u64, ByItself>,
-    list: &[u64],
-    id: u64,
-    at: Option<usize>,
-    of_it: usize,
-) -> bool {
-    let found = made.len() == list.len()
-        && made.as_slice() == list
-        && made.place(id) == at
-        && made.count(id) == of_it;
+// Whether a list is that of a row, and an id is found in it as the row says, also after it is put back.
+fn is_made(made: &mut IdList<u64, ByItself>, row: &Row) -> bool {
+    let (list, id, _, at, of_it) = *row;
+    let found = (made.len(), made.place(id), made.count(id)) == (list.len(), at, of_it);
+    let whole = made.as_slice() == list;
     put_back(made, id);
-    found && made.as_slice() == list
+    found && whole && made.as_slice() == list
+}
+
+fn is_list(alloc: Global, row: &Row) -> Result<bool, AllocError> {
+    let items = Vec::from_slice(alloc, row.0)?;
+    if !are_in_order::<_, ByItself>(&items) {
+        return Ok(false);
+    }
+    let mut made: IdList<u64, ByItself> = IdList::of(alloc, items).or(Err(AllocError))?;
+    let is_made = is_made(&mut made, row);
+    drop(made);
+    Ok(is_made)
 }
 
 #[test]
 fn lists(rt: HostRuntime) {
-    for (list, id, _, at, of_it) in ROWS {
-        let items = Vec::from_slice(rt.alloc(), list).ok().expect(&rt, "memory");
-        assert!(rt; are_in_order::<_, ByItself>(&items));
-        let mut made: IdList<u64, ByItself> = IdList::of(rt.alloc(), items)
-            .ok()
-            .expect(&rt, "memory");
-        assert!(rt; is_made(&mut made, list, *id, *at, *of_it));
-        drop(made);
+    for (i, row) in ROWS.iter().enumerate() {
+        assert!(rt; is_list(rt.alloc(), row) == Ok(true), "row {i}");
     }
 }
 
@@ -119,7 +129,7 @@ fn lent_lists(rt: HostRuntime) {
 }
 
 // Lists, and whether they are in order.
-const ORDER: [(&[u64], bool); 5] = [
+const ORDER: &[(&[u64], bool)] = &[
     (&[], true),
     (&[7], true),
     (SPARSE, true),
@@ -130,25 +140,27 @@ const ORDER: [(&[u64], bool); 5] = [
 #[test]
 fn order(rt: HostRuntime) {
     for (list, want) in ORDER {
-        assert!(rt; are_in_order::<_, ByItself>(list) == want);
+        assert!(rt; are_in_order::<_, ByItself>(list) == *want);
     }
 }
 
 // Numbers, and those that there are in order.
-const DISTINCT: [(&[u64], &[u64]); 4] = [
+const DISTINCT: &[(&[u64], &[u64])] = &[
     (&[], &[]),
     (&[7], &[7]),
     (&[3, 1, 3, 2, 1], &[1, 2, 3]),
     (&[u64::MAX, 0, u64::MAX], &[0, u64::MAX]),
 ];
 
+fn are_distinct(alloc: Global, given: &[u64], want: &[u64]) -> Result<bool, AllocError> {
+    let mut items = Vec::from_slice(alloc, given)?;
+    distinct(&mut items);
+    Ok(items.as_slice() == want)
+}
+
 #[test]
 fn numbers_once(rt: HostRuntime) {
     for (given, want) in DISTINCT {
-        let mut items = Vec::from_slice(rt.alloc(), given)
-            .ok()
-            .expect(&rt, "memory");
-        distinct(&mut items);
-        assert!(rt; items.as_slice() == want);
+        assert!(rt; are_distinct(rt.alloc(), given, want) == Ok(true));
     }
 }

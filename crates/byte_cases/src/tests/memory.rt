@@ -26,21 +26,35 @@ fn has(folder: &MemFolder, items: &[(&str, Option<&[u8]>)]) -> bool {
 
 const FILLED: &[(&str, Option<&[u8]>)] = &[("d", None), ("d/f", Some(b"hello")), ("e", Some(b""))];
 
+// Whether all is put into a folder.
+fn puts_all(folder: &mut MemFolder) -> bool {
+    folder.make_dir("d").is_ok()
+        && put(folder, "d/f", b"hel", b"lo").is_ok()
+        && folder.start_file("e").is_ok()
+        && folder.fault_count() == 0
+        && has(folder, FILLED)
+}
+
 #[test]
 fn a_folder_in_memory_has_what_was_put(rt: HostRuntime) {
     let mut folder = MemFolder::new(rt.alloc(), 3, 10, Vec::new(rt.alloc()))
         .ok()
         .expect(&rt, "memory");
-    assert!(rt;
-        folder.make_dir("d").is_ok()
-            && put(&mut folder, "d/f", b"hel", b"lo").is_ok()
-            && folder.start_file("e").is_ok()
-            && has(&folder, FILLED)
-            && folder.fault_count() == 0
-    );
+    assert!(rt; puts_all(&mut folder));
+    drop(folder);
 }
 
 const REFUSED: &[(&str, Option<&[u8]>)] = &[("f", Some(b"")), ("g", Some(b""))];
+
+// Whether a folder refuses four of six calls.
+fn refuses_four(folder: &mut MemFolder) -> bool {
+    refuses(folder, "f", b"a")
+        && folder.make_dir("longer").is_err()
+        && refuses(folder, "g", b"hello")
+        && folder.make_dir("d").is_err()
+        && folder.fault_count() == 4
+        && has(folder, REFUSED)
+}
 
 #[test]
 fn a_folder_in_memory_refuses_by_number_and_by_room(rt: HostRuntime) {
@@ -49,14 +63,8 @@ fn a_folder_in_memory_refuses_by_number_and_by_room(rt: HostRuntime) {
     let mut folder = MemFolder::new(alloc, 2, 6, fails)
         .ok()
         .expect(&rt, "memory");
-    assert!(rt;
-        refuses(&mut folder, "f", b"a")
-            && folder.make_dir("longer").is_err()
-            && refuses(&mut folder, "g", b"hello")
-            && folder.make_dir("d").is_err()
-            && has(&folder, REFUSED)
-            && folder.fault_count() == 4
-    );
+    assert!(rt; refuses_four(&mut folder));
+    drop(folder);
 }
 
 #[test]

@@ -1,11 +1,11 @@
 // Disks written field by field by the numbers of the UEFI specification, and each call once.
 ghost use Rattle.std.specs.Prelude.{◌≡◌, ◌≤◌, Some, length};
 
+use apfs_model::ReadFailed;
 use blk_source::{BlockSource, MemSource, SureSource};
 use img_gpt::{GptStop, Origin, Part, Slice, find_part, part_or_fault};
 use std::alloc::{AllocError, Global};
 use std::marker::Brand;
-use std::test::Fail;
 
 // The type of a partition with a container, 7C3457EF-0000-11AA-AA11-00306543ECAC, its first three parts with the lowest byte first.
 const CONTAINER_TYPE: [u8; 16] = [
@@ -53,48 +53,37 @@ const PLAIN: Disk = Disk {
     other: (3, System, 34, 39),
 };
 
-// Writes bytes where the disk has them.
-fn put(bytes: &mut Vec<u8>, at: usize, part: &[u8]) {
+// Writes bytes where the disk has them, at an offset from a start.
+fn put(bytes: &mut Vec<u8>, start: usize, offset: usize, part: &[u8]) {
+    let at = start.saturating_add(offset);
     if at <= bytes.len() && part.len() <= bytes.len() - at {
         bytes[at..at + part.len()].copy_from_slice(part);
     }
 }
 
 // Writes an entry.
-fn put_entry(bytes: &mut Vec<u8>, at: usize, kind: Kind, first: u64, last: u64) {
-    match kind {
-        Container => put(bytes, at, &CONTAINER_TYPE),
-        System => put(bytes, at, &SYSTEM_TYPE),
-    }
-    put(bytes, at.saturating_add(32), &first.to_le_bytes());
-    put(bytes, at.saturating_add(40), &last.to_le_bytes());
+fn put_entry(bytes: &mut Vec<u8>, disk: &Disk, entry: Entry) {
+    let (number, kind, first, last) = entry;
+    let offset = u64::from(number).saturating_mul(u64::from(disk.size));
+    let start = disk.entries.saturating_mul(disk.sector as u64);
+    let at = start.saturating_add(offset) as usize;
+    let kind = match kind {
+        Container => &CONTAINER_TYPE,
+        System => &SYSTEM_TYPE,
+    };
+    put(bytes, at, 0, kind);
+    put(bytes, at, 32, &first.to_le_bytes());
+    put(bytes, at, 40, &last.to_le_bytes());
 }
 
 fn bytes_of(alloc: Global, disk: &Disk) -> Result<Vec<u8>, AllocError> {
     let mut bytes = vec![in alloc; 0u8; disk.sector.saturating_mul(disk.sectors)]?;
-    let header = disk.sector;
-    put(&mut bytes, header, b"EFI PART");
-    put(
-        &mut bytes,
-        header.saturating_add(72),
-        &disk.entries.to_le_bytes(),
-    );
-    put(
-        &mut bytes,
-        header.saturating_add(80),
-        &disk.count.to_le_bytes(),
-    );
-    put(
-        &mut bytes,
-        header.saturating_add(84),
-        &disk.size.to_le_bytes(),
-    );
-    for (number, kind, first, last) in [disk.one, disk.other] {
-        let offset = u64::from(number).saturating_mul(u64::from(disk.size));
-        let start = disk.entries.saturating_mul(disk.sector as u64);
-        let at = start.saturating_add(offset) as usize;
-        put_entry(&mut bytes, at, kind, first, last);
-    }
+    put(&mut bytes, disk.sector, 0, b"EFI PART");
+    put(&mut bytes, disk.sector, 72, &disk.entries.to_le_bytes());
+    put(&mut bytes, disk.sector, 80, &disk.count.to_le_bytes());
+    put(&mut bytes, disk.sector, 84, &disk.size.to_le_bytes());
+    put_entry(&mut bytes, disk, disk.one);
+    put_entry(&mut bytes, disk, disk.other);
     Ok(bytes)
 }
 
@@ -194,45 +183,60 @@ fn a_partition_is_found_and_faults_are_told_in_their_order(rt: HostRuntime) {
 #[test]
 fn a_table_without_entries_has_no_partition(rt: HostRuntime) {
     let mut bytes = bytes_of(rt.alloc(), &PLAIN).ok().expect(&rt, "memory");
-    put(&mut bytes, 1024, &[0]);
+    put(&mut bytes, 1024, 0, &[0]);
     assert!(rt; find_part(&mut SureSource::new(bytes)) == Err(GptStop::NoPartition));
 }
 
 // A header at 4,096 that is cut off is none; one of 92 bytes is one.
-const CUT: [(usize, GptStop); 2] = [(4187, GptStop::NoTable), (4188, GptStop::BadTable)];
+const CUT: &[(usize, GptStop)] = &[(4187, GptStop::NoTable), (4188, GptStop::BadTable)];
+
+fn found_in_cut(alloc: Global, len: usize) -> Result<Option<GptStop>, AllocError> {
+    let mut bytes = vec![in alloc; 0u8; len]?;
+    put(&mut bytes, 4096, 0, b"EFI PART");
+    Ok(find_part(&mut SureSource::new(bytes)).err())
+}
 
 #[test]
 fn a_header_lies_in_the_disk(rt: HostRuntime) {
     for (len, stop) in CUT {
-        let mut bytes = vec![in rt.alloc(); 0u8; len].ok().expect(&rt, "memory");
-        put(&mut bytes, 4096, b"EFI PART");
-        assert!(rt; find_part(&mut SureSource::new(bytes)) == Err(stop));
+        assert!(rt; found_in_cut(rt.alloc(), *len) == Ok(Some(*stop)));
     }
 }
 
-// The search reads the header, and the entry that is a container's.
+// The read that fails, what is found, and how many reads are made and fail. The search reads the header, and the entry that is a
+// container's.
+const FAILED: &[(u64, Result<Part, GptStop>, (u64, u64))] = &[
+    (1, Err(GptStop::ReadFault), (1, 1)),
+    (2, Err(GptStop::ReadFault), (2, 1)),
+    (3, Ok(PLAIN_PART), (2, 0)),
+];
+
+fn is_told(
+    alloc: Global,
+    fails: u64,
+    answer: Result<Part, GptStop>,
+    counts: (u64, u64),
+) -> Result<bool, AllocError> {
+    let bytes = bytes_of(alloc, &PLAIN)?;
+    let mut source = MemSource::new(bytes, vec![in alloc; fails]?);
+    Ok(find_part(&mut source) == answer && (source.read_count(), source.fault_count()) == counts)
+}
+
 #[test]
 fn a_failed_read_is_told(rt: HostRuntime) {
-    let alloc = rt.alloc();
-    for number in 1..=3u64 {
-        let fails = vec![in alloc; number].ok().expect(&rt, "memory");
-        let bytes = bytes_of(alloc, &PLAIN).ok().expect(&rt, "memory");
-        let mut source = MemSource::new(bytes, fails);
-        let answer = find_part(&mut source);
-        if number <= 2 {
-            assert!(rt;
-                answer == Err(GptStop::ReadFault)
-                    && source.read_count() == number
-                    && source.fault_count() == 1
-            );
-        } else {
-            assert!(rt; answer == Ok(PLAIN_PART));
-        }
+    for (fails, answer, counts) in FAILED {
+        assert!(rt;
+            is_told(rt.alloc(), *fails, *answer, *counts) == Ok(true),
+            "{fails}"
+        );
     }
 }
 
-// What is read through a slice, whether a read that is refused fails, its length, and the source that it gives back.
-fn through<O: Origin>(source: MemSource) -> Result<([u8; 2], bool, u64, MemSource), Fail>
+// What is read through a slice, whether a read that is refused fails, its length, and the size, the reads and the failures of the source
+// that it gives back.
+type Through = ([u8; 2], bool, u64, (u64, u64, u64));
+
+fn through<O: Origin>(source: MemSource) -> Result<Through, ReadFailed>
     requires inside { 4 ≤ length source.bytes }
     requires size { length source.bytes ≡ O.size }
     requires bytes { Some source.bytes ≡ O.bytes }
@@ -242,18 +246,19 @@ fn through<O: Origin>(source: MemSource) -> Result<([u8; 2], bool, u64, MemSourc
     slice.read_at(1, &mut into)?;
     let refused = slice.read_at(0, &mut [0u8; 2]).is_err();
     let length = slice.size();
-    Ok((into, refused, length, slice.into_inner()))
+    let source = slice.into_inner();
+    let counts = (source.size(), source.read_count(), source.fault_count());
+    Ok((into, refused, length, counts))
 }
 
+const PART_READ: Through = ([3, 4], true, 3, (5, 2, 1));
+
 #[test]
-fn a_slice_reads_its_part(rt: HostRuntime) -> Result<(), Fail> {
+fn a_slice_reads_its_part(rt: HostRuntime) {
     let alloc = rt.alloc();
-    let source = MemSource::new(vec![in alloc; 1, 2, 3, 4, 5]?, vec![in alloc; 2]?);
-    let (read, refused, length, source) = through::<Brand>(source)?;
-    assert!(rt;
-        (read, refused, length) == ([3, 4], true, 3)
-            && (source.size(), source.read_count(), source.fault_count()) == (5, 2, 1)
-    );
+    let bytes = vec![in alloc; 1, 2, 3, 4, 5].ok().expect(&rt, "memory");
+    let fails = vec![in alloc; 2].ok().expect(&rt, "memory");
+    let source = MemSource::new(bytes, fails);
+    assert!(rt; through::<Brand>(source) == Ok(PART_READ));
     part_or_fault();
-    Ok(())
 }

@@ -1,106 +1,73 @@
 // Numbers worked out by hand.
-use piece_count::{Counts, Holdings, Piece, ViewCount, ViewRun, Views, count};
+use apfs_model::NoMemory;
+use piece_count::{Holdings, Piece, ViewCount, ViewRun, Views, count};
 use std::alloc::{AllocError, Global};
-use std::process::Abort;
-use std::test::Fail;
-
-// A run of blocks: the first one, the one after the last, and the number of its set.
-type Run = (u64, u64, usize);
 
 // Runs of blocks; of each of three views, how many blocks it has and how many no other view has; and how many some view has.
-type Row = (&'static [Run], [(u64, u64); 3], u64);
+type Row = (&'static [Piece], &'static [ViewCount], u64);
 
-const ROWS: &[Row] = &[
-    (&[], [(0, 0), (0, 0), (0, 0)], 0),
-    (&[(5, 9, 1)], [(0, 0), (4, 4), (0, 0)], 4),
-    (&[(5, 9, 3)], [(4, 0), (4, 0), (4, 0)], 4),
-    (&[(5, 9, 4), (8, 10, 1)], [(4, 0), (2, 1), (4, 0)], 5),
-    (&[(7, 12, 0), (5, 9, 1)], [(5, 3), (4, 2), (0, 0)], 7),
-    (
-        &[(7, 8, 0), (5, 9, 1), (8, 9, 2)],
-        [(1, 0), (4, 2), (1, 0)],
-        4,
-    ),
-    (
-        &[(5, 9, 2), (5, 9, 2), (8, 20, 5)],
-        [(0, 0), (0, 0), (11, 11)],
-        11,
-    ),
-    (
-        &[(3, 3, 3), (9, 4, 3), (16, 90, 0), (40, 50, 3), (2, 5, 6)],
-        [(0, 0), (0, 0), (0, 0)],
-        0,
-    ),
-];
+// A table of these: a run is its first block, the one after the last, and the number of its set.
+macro_rules! rows {
+    ($([$(($first:expr, $end:expr, $set:expr)),*], [$(($held:expr, $only:expr)),*], $all:expr;)*) => {
+        &[$((
+            &[$(Piece { first: $first, end: $end, set: $set }),*],
+            &[$(ViewCount { held: $held, only: $only }),*],
+            $all,
+        )),*]
+    };
+}
+
+const ROWS: &[Row] = rows! {
+    [], [(0, 0), (0, 0), (0, 0)], 0;
+    [(5, 9, 1)], [(0, 0), (4, 4), (0, 0)], 4;
+    [(5, 9, 3)], [(4, 0), (4, 0), (4, 0)], 4;
+    [(5, 9, 4), (8, 10, 1)], [(4, 0), (2, 1), (4, 0)], 5;
+    [(7, 12, 0), (5, 9, 1)], [(5, 3), (4, 2), (0, 0)], 7;
+    [(7, 8, 0), (5, 9, 1), (8, 9, 2)], [(1, 0), (4, 2), (1, 0)], 4;
+    [(5, 9, 2), (5, 9, 2), (8, 20, 5)], [(0, 0), (0, 0), (11, 11)], 11;
+    [(3, 3, 3), (9, 4, 3), (16, 90, 0), (40, 50, 3), (2, 5, 6)], [(0, 0), (0, 0), (0, 0)], 0;
+};
+
+// A set of views from one up to another.
+macro_rules! views {
+    ($(($from:expr, $to:expr)),+) => {
+        &[$(ViewRun { from: $from, to: $to }),+]
+    };
+}
 
 // The views of each set, by runs of them.
-const SETS: &[&[(usize, usize)]] = &[
-    &[(0, 1)],
-    &[(1, 2)],
-    &[(2, 3)],
-    &[(0, 3)],
-    &[(0, 1), (2, 3)],
-    &[(2, 9)],
+const SETS: &[&[ViewRun]] = &[
+    views!((0, 1)),
+    views!((1, 2)),
+    views!((2, 3)),
+    views!((0, 3)),
+    views!((0, 1), (2, 3)),
+    views!((2, 9)),
 ];
-
-fn set(alloc: Global, views: &[(usize, usize)]) -> Result<Views, AllocError> {
-    let mut runs = Vec::new(alloc);
-    for (from, to) in views {
-        runs.push(ViewRun {
-            from: *from,
-            to: *to,
-        })?;
-    }
-    Ok(Views { runs })
-}
 
 fn sets(alloc: Global) -> Result<Vec<Views>, AllocError> {
     let mut sets = Vec::new(alloc);
-    for views in SETS {
-        sets.push(set(alloc, views)?)?;
+    for runs in SETS {
+        sets.push(Views {
+            runs: Vec::from_slice(alloc, runs)?,
+        })?;
     }
     Ok(sets)
 }
 
-fn pieces(alloc: Global, runs: &[Run]) -> Result<Vec<Piece>, AllocError> {
-    let mut pieces = Vec::new(alloc);
-    for (first, end, set) in runs {
-        pieces.push(Piece {
-            first: *first,
-            end: *end,
-            set: *set,
-        })?;
-    }
-    Ok(pieces)
-}
-
-// What three views have of 16 blocks.
-fn counted(alloc: Global, runs: &[Run]) -> Result<Counts, Fail> {
+// Whether three views have of 16 blocks what a row says.
+fn is_counted(alloc: Global, row: &Row) -> Result<bool, NoMemory> {
     let held = Holdings {
         sets: sets(alloc)?,
-        pieces: pieces(alloc, runs)?,
+        pieces: Vec::from_slice(alloc, row.0)?,
     };
-    Ok(count(alloc, held, 3, 16)?)
-}
-
-// Asserts what three views have, and all of them.
-fn assert_counts(rt: &impl Abort, counts: &Counts, row: &Row) {
-    let (runs, views, all) = row;
-    assert!(rt; counts.all == *all, "{runs:?}");
-    for (view, (held, only)) in views.iter().enumerate() {
-        let want = ViewCount {
-            held: *held,
-            only: *only,
-        };
-        assert!(rt; counts.views.get(view) == Some(&want), "{runs:?} {view}");
-    }
+    let counts = count(alloc, held, 3, 16)?;
+    Ok(counts.all == row.2 && counts.views.as_slice() == row.1)
 }
 
 #[test]
-fn counts_what_views_have(rt: HostRuntime) -> Result<(), Fail> {
-    for row in ROWS {
-        let counts = counted(rt.alloc(), row.0)?;
-        assert_counts(&rt, &counts, row);
+fn counts_what_views_have(rt: HostRuntime) {
+    for (i, row) in ROWS.iter().enumerate() {
+        assert!(rt; is_counted(rt.alloc(), row) == Ok(true), "row {i}");
     }
-    Ok(())
 }

@@ -1,11 +1,10 @@
 // What no clause says: that calls succeed, and what a file and a writer do.
+use super::directories::place_of;
 use blk_source::{BlockSource, FileSource, MemSink, MemSource, Opened, Sink, StdSink, SureSource};
-use std::fs::OpenFile;
+use std::fs;
 use std::io::{self, ErrorKind, Write};
 use std::os::unix::fs::FileExt;
-use std::path::PathBuf;
 use std::test::Fail;
-use std::{env, fs, process};
 
 // Two bytes of a source from a place on, or none where it ends before them or the read fails.
 fn two<S: BlockSource>(source: &mut S, at: u64) -> Option<[u8; 2]> {
@@ -29,20 +28,24 @@ fn four<S: BlockSource>(source: &mut S, at: u64) -> Option<[u8; 4]> {
     Some(into)
 }
 
+const TWO_THREE: Option<[u8; 2]> = Some([2, 3]);
+
+const THREE_FOUR: Option<[u8; 2]> = Some([3, 4]);
+
+// Whether the second of three reads is refused.
+fn refuses_second(source: &mut MemSource) -> bool {
+    (two(source, 1), two(source, 0), two(source, 2)) == (TWO_THREE, None, THREE_FOUR)
+        && (source.size(), source.read_count(), source.fault_count()) == (4, 3, 1)
+}
+
 #[test]
 fn a_source_in_memory_refuses_chosen_reads(rt: HostRuntime) {
     let alloc = rt.alloc();
     let bytes = vec![in alloc; 1, 2, 3, 4].ok().expect(&rt, "memory");
     let fails = vec![in alloc; 2].ok().expect(&rt, "memory");
     let mut source = MemSource::new(bytes, fails);
-    assert!(rt;
-        two(&mut source, 1) == Some([2, 3])
-            && two(&mut source, 0).is_none()
-            && two(&mut source, 2) == Some([3, 4])
-            && source.size() == 4
-            && source.read_count() == 3
-            && source.fault_count() == 1
-    );
+    assert!(rt; refuses_second(&mut source));
+    drop(source);
 }
 
 #[test]
@@ -50,11 +53,22 @@ fn a_sure_source_reads(rt: HostRuntime) {
     let bytes = vec![in rt.alloc(); 5, 6, 7].ok().expect(&rt, "memory");
     let mut source = SureSource::new(bytes);
     assert!(rt; two(&mut source, 1) == Some([6, 7]) && source.size() == 3);
+    drop(source);
 }
 
-// Whether a sink has a text, and how many puts were refused.
-fn has(sink: &MemSink, contents: &[u8], faults: u64) -> bool {
-    sink.contents() == contents && sink.fault_count() == faults
+// Pieces, and whether they are put.
+const PUTS: &[(&[u8], bool)] = &[(b"ab", true), (b"c", false), (b"def", true), (b"g", false)];
+
+const ABDEF: &[u8] = b"abdef";
+
+// Whether the second and the fourth of four puts are refused.
+fn refuses_by_number_and_room(sink: &mut MemSink) -> bool {
+    for (piece, is_put) in PUTS {
+        if sink.put(piece).is_ok() != *is_put {
+            return false;
+        }
+    }
+    sink.contents() == ABDEF && sink.fault_count() == 2
 }
 
 #[test]
@@ -62,78 +76,79 @@ fn a_sink_in_memory_refuses_by_number_and_by_room(rt: HostRuntime) {
     let alloc = rt.alloc();
     let fails = vec![in alloc; 2].ok().expect(&rt, "memory");
     let mut sink = MemSink::new(alloc, 5, fails).ok().expect(&rt, "memory");
-    assert!(rt;
-        sink.put(b"ab").is_ok()
-            && sink.put(b"c").is_err()
-            && sink.put(b"def").is_ok()
-            && sink.put(b"g").is_err()
-            && has(&sink, b"abdef", 2)
-    );
+    assert!(rt; refuses_by_number_and_room(&mut sink));
+    drop(sink);
 }
 
-// Where a file of a test stands.
-fn place(rt: &HostRuntime, name: &str) -> Result<PathBuf, Fail> {
-    let name = format!(in rt.alloc(); "{name}.{}", process::id(rt.process()))?;
-    Ok(env::temp_dir(rt)?.join(rt.alloc(), name.as_str())?)
+const THREE_TO_SIX: Option<[u8; 4]> = Some(*b"3456");
+
+const SIX_SEVEN: Option<[u8; 2]> = Some(*b"67");
+
+fn is_whole(source: &mut FileSource) -> bool {
+    (source.size(), four(source, 3)) == (10, THREE_TO_SIX)
 }
 
-// Whether a file of ten bytes is read, and is at its end after it is cut behind the source's back: the bytes from 8 on are not there any more.
-fn is_cut(rt: &HostRuntime, path: &PathBuf) -> Result<bool, Fail> {
+// Whether the bytes from 8 on are not there any more. Of the last four bytes that are asked for the file has two.
+fn is_short(source: &mut FileSource) -> bool {
+    (two(source, 8), two(source, 6), four(source, 6)) == (None, SIX_SEVEN, None)
+}
+
+// Whether a file of ten bytes is read, and is at its end after it is cut behind the source's back.
+fn is_cut(rt: &HostRuntime, path: &str) -> Result<bool, Fail> {
+    fs::write(rt, path, b"0123456789")?;
     let mut source = FileSource::new(fs::open(rt, path)?)?;
-    let whole = source.size() == 10 && four(&mut source, 3) == Some(*b"3456");
-    fs::create(rt, path)?.write_all(b"01234567")?;
-    let gone = two(&mut source, 8).is_none() && two(&mut source, 6) == Some(*b"67");
-    // Of these four bytes the file has two.
-    Ok(whole && gone && four(&mut source, 6).is_none())
-}
-
-#[test]
-fn a_file_is_read_and_its_end_is_a_failure(rt: HostRuntime) -> Result<(), Fail> {
-    let path = place(&rt, "blk_source")?;
-    fs::write(&rt, &path, b"0123456789")?;
-    assert!(rt; is_cut(&rt, &path)?);
-    fs::remove_file(&rt, &path)?;
-    Ok(())
+    let whole = is_whole(&mut source);
+    fs::write(rt, path, b"01234567")?;
+    Ok(whole && is_short(&mut source))
 }
 
 // More than 2^40 bytes, of which the file keeps the few that are written.
 const FAR: u64 = (1 << 40) + 3;
 
-// Whether a long file is read near its start, at its end, and between.
-fn is_read<S: BlockSource>(source: &mut S) -> bool {
+const NEAR_TEXT: Option<[u8; 4]> = Some(*b"near");
+
+const FAR_TEXT: Option<[u8; 4]> = Some(*b"far!");
+
+const NOTHING: Option<[u8; 4]> = Some([0; 4]);
+
+// Whether a long file is read at its end, near its start, and between.
+fn is_long(source: &mut FileSource) -> bool {
     source.size() == FAR + 4
-        && four(source, FAR) == Some(*b"far!")
-        && four(source, 3) == Some(*b"near")
-        && four(source, FAR - 4) == Some([0; 4])
+        && (four(source, FAR), four(source, 3), four(source, FAR - 4))
+            == (FAR_TEXT, NEAR_TEXT, NOTHING)
 }
 
 // Writes a few bytes near the start of a long file, and at its end.
-fn write_far(rt: &HostRuntime, path: &PathBuf) -> Result<(), Fail> {
+fn write_far(rt: &HostRuntime, path: &str) -> io::Result<()> {
     let file = fs::create(rt, path)?;
     file.write_all_at(b"near", 3)?;
-    file.write_all_at(b"far!", FAR)?;
-    Ok(())
+    file.write_all_at(b"far!", FAR)
 }
 
-#[test]
-fn a_file_is_read_far_out(rt: HostRuntime) -> Result<(), Fail> {
-    let path = place(&rt, "blk_source_far")?;
-    write_far(&rt, &path)?;
-    let mut source = FileSource::new(fs::open(&rt, &path)?)?;
-    assert!(rt; is_read(&mut source));
-    fs::remove_file(&rt, &path)?;
-    Ok(())
+fn is_read_far_out(rt: &HostRuntime, path: &str) -> Result<bool, Fail> {
+    write_far(rt, path)?;
+    let mut source = FileSource::new(fs::open(rt, path)?)?;
+    Ok(is_long(&mut source))
 }
 
-#[test]
-fn a_file_that_may_not_be_read_fails(rt: HostRuntime) -> Result<(), Fail> {
-    let path = place(&rt, "blk_source_out")?;
-    // A file that was opened to be written: the system refuses to read by its descriptor.
-    let file = fs::create(&rt, &path)?;
+// Whether no byte is read of a file that was opened to be written: the system refuses to read by its descriptor.
+fn is_refused(rt: &HostRuntime, path: &str) -> Result<bool, Fail> {
+    let file = fs::create(rt, path)?;
     file.write_all_at(b"0123", 0)?;
     let mut source = FileSource::new(file)?;
-    assert!(rt; source.size() == 4 && four(&mut source, 0).is_none());
-    fs::remove_file(&rt, &path)?;
+    Ok((source.size(), four(&mut source, 0)) == (4, None))
+}
+
+// Whether all of that is so of the file at a path, which is removed.
+fn are_read(rt: &HostRuntime, path: &str) -> Result<bool, Fail> {
+    let are_read = is_cut(rt, path)? && is_read_far_out(rt, path)? && is_refused(rt, path)?;
+    fs::remove_file(rt, path)?;
+    Ok(are_read)
+}
+
+#[test]
+fn files_are_read_and_fail_as_they_should(rt: HostRuntime) -> Result<(), Fail> {
+    assert!(rt; are_read(&rt, &place_of(&rt, "blk_source")?)?);
     Ok(())
 }
 

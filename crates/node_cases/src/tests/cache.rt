@@ -48,7 +48,7 @@ fn piece<S: BlockSource>(
 }
 
 // Pieces of the image: within a block, over two, of all five, twice the same, at its end.
-const PIECES: [(u16, u16); 7] = [
+const PIECES: &[(u16, u16)] = &[
     (0, 16),
     (4000, 200),
     (0, 20_000),
@@ -58,20 +58,41 @@ const PIECES: [(u16, u16); 7] = [
     (16_000, 4000),
 ];
 
-// Asserts that a source has the bytes of an image in each of the pieces.
-fn assert_pieces<S: BlockSource>(rt: &impl Abort, alloc: Global, image: &[u8], source: &mut S) {
-    for (at, len) in PIECES {
-        let start = at as usize;
-        let bytes = piece(alloc, source, at, len).ok().expect(rt, "a piece");
-        assert!(rt; Some(bytes.as_slice()) == image.get(start..start + len as usize));
-    }
+// Whether a source has a piece of an image.
+fn has_piece<S: BlockSource>(
+    alloc: Global,
+    image: &[u8],
+    source: &mut S,
+    at: u16,
+    len: u16,
+) -> Result<bool, &'static str> {
+    let start = at as usize;
+    let bytes = piece(alloc, source, at, len)?;
+    Ok(Some(bytes.as_slice()) == image.get(start..start + len as usize))
 }
 
-// Asserts of some blocks that those are kept that are marked.
-fn assert_kept(rt: &impl Abort, cached: &Cached<SureSource>, blocks: &[(u64, bool)]) {
-    for (block, kept) in blocks {
-        assert!(rt; cached.kept(*block) == *kept, "{block}");
+// Whether a source has the bytes of an image in each of the pieces.
+fn has_pieces<S: BlockSource>(
+    alloc: Global,
+    image: &[u8],
+    source: &mut S,
+) -> Result<bool, &'static str> {
+    for (at, len) in PIECES {
+        if !has_piece(alloc, image, source, *at, *len)? {
+            return Ok(false);
+        }
     }
+    Ok(true)
+}
+
+// Whether of some blocks those are kept that are marked.
+fn keeps(cached: &Cached<SureSource>, blocks: &[(u64, bool)]) -> bool {
+    for (block, kept) in blocks {
+        if cached.kept(*block) != *kept {
+            return false;
+        }
+    }
+    true
 }
 
 // Asserts that a cache gives the image, and what it keeps after those pieces.
@@ -80,8 +101,7 @@ fn assert_cache(rt: &impl Abort, alloc: Global, capacity: usize, blocks: &[(u64,
 {
     let image = image(alloc).ok().expect(rt, "memory");
     let mut cached = cached(rt, alloc, SIZE, capacity);
-    assert_pieces(rt, alloc, &image, &mut cached);
-    assert_kept(rt, &cached, blocks);
+    assert!(rt; has_pieces(alloc, &image, &mut cached) == Ok(true) && keeps(&cached, blocks));
     drop(cached);
 }
 
@@ -96,20 +116,21 @@ fn a_small_and_a_large_cache_give_the_same_bytes(rt: HostRuntime) {
     assert_cache(&rt, rt.alloc(), 256, LARGE_KEEPS);
 }
 
-// Asserts how often the source inside is read, of which the second read is refused.
-fn assert_reads(rt: &impl Abort, alloc: Global, image: &[u8], cached: &mut Cached<MemSource>) {
-    assert!(rt;
-        piece(alloc, cached, 0, 4096).is_ok()
-            && piece(alloc, cached, 4090, 10).is_err()
-            && cached.kept(0)
-            && !cached.kept(1)
-    );
-    // After block 0 and the read that is refused: block 1, blocks 2 and 3 at once, 4, 2, and what is asked of 3.
-    assert_pieces(rt, alloc, image, cached);
-    assert!(rt; cached.inner().read_count() == 7 && cached.lost() == 0);
-    // Block 3 alone isn't kept, and two pieces touch it.
-    assert_pieces(rt, alloc, image, cached);
-    assert!(rt; cached.inner().read_count() == 9 && cached.lost() == 0);
+// Whether pieces are read, and how often the source inside then was.
+fn reads(alloc: Global, image: &[u8], cached: &mut Cached<MemSource>) -> (bool, u64, u64) {
+    let read = has_pieces(alloc, image, cached) == Ok(true);
+    (read, cached.inner().read_count(), cached.lost())
+}
+
+// Whether the source inside, of which the second read is refused, is read as often as it should be.
+fn is_read(alloc: Global, image: &[u8], cached: &mut Cached<MemSource>) -> bool {
+    let first = piece(alloc, cached, 0, 4096).is_ok();
+    let second = piece(alloc, cached, 4090, 10).is_ok();
+    (first, second, cached.kept(0), cached.kept(1)) == (true, false, true, false)
+        // After block 0 and the read that is refused: block 1, blocks 2 and 3 at once, 4, 2, and what is asked of 3.
+        && reads(alloc, image, cached) == (true, 7, 0)
+        // Block 3 alone isn't kept, and two pieces touch it.
+        && reads(alloc, image, cached) == (true, 9, 0)
 }
 
 #[test]
@@ -121,12 +142,12 @@ fn what_is_kept_is_not_read_again(rt: HostRuntime) {
     let mut cached = Cached::new(alloc, source, 4096, 256)
         .ok()
         .expect(&rt, "memory");
-    assert_reads(&rt, alloc, &bytes, &mut cached);
+    assert!(rt; is_read(alloc, &bytes, &mut cached));
     assert!(rt; cached.into_inner().fault_count() == 1);
 }
 
 // Two nodes, and contents whose last blocks are 3, 5 and 8.
-const NODES_AND_CONTENTS: [(u16, u16); 5] = [
+const NODES_AND_CONTENTS: &[(u16, u16)] = &[
     (0, 4096),
     (4096, 4096),
     (8192, 8192),
@@ -139,15 +160,21 @@ const KEPT: &[(u64, bool)] = &[(0, true), (1, true), (3, false), (5, false), (8,
 
 const KEPT_AFTER_A_NODE: &[(u64, bool)] = &[(0, true), (1, true), (2, true), (8, false)];
 
+// Whether a cache keeps what it should after these, and after a third node.
+fn pushes_out_one(alloc: Global, cached: &mut Cached<SureSource>) -> bool {
+    for (at, len) in NODES_AND_CONTENTS {
+        if piece(alloc, cached, *at, *len).is_err() {
+            return false;
+        }
+    }
+    keeps(cached, KEPT)
+        && piece(alloc, cached, 8192, 4096).is_ok()
+        && keeps(cached, KEPT_AFTER_A_NODE)
+}
+
 #[test]
 fn reads_of_several_blocks_push_out_one_block_at_most(rt: HostRuntime) {
-    let alloc = rt.alloc();
-    let mut cached = cached(&rt, alloc, 36_864, 3);
-    for (at, len) in NODES_AND_CONTENTS {
-        assert!(rt; piece(alloc, &mut cached, at, len).is_ok());
-    }
-    assert_kept(&rt, &cached, KEPT);
-    assert!(rt; piece(alloc, &mut cached, 8192, 4096).is_ok());
-    assert_kept(&rt, &cached, KEPT_AFTER_A_NODE);
+    let mut cached = cached(&rt, rt.alloc(), 36_864, 3);
+    assert!(rt; pushes_out_one(rt.alloc(), &mut cached));
     drop(cached);
 }

@@ -85,16 +85,15 @@ fn source(alloc: Global) -> Result<MemSource, AllocError> {
 
 // Whether all of some leaves are taken.
 fn take_all(
-    rt: &impl Abort,
     source: &mut MemSource,
     changing: &mut Changing,
     leaves: &[Leaf],
 ) -> Result<bool, Stop<()>> {
     LeafTaker::<FsPlainKey>::foresee(changing, leaves);
     for leaf in leaves {
-        assert!(rt; source.size() == 20480);
-        let ends = LeafTaker::<FsPlainKey>::take(changing, source, &SITE, *leaf)?;
-        if ends.is_none() {
+        if source.size() != 20480
+            || LeafTaker::<FsPlainKey>::take(changing, source, &SITE, *leaf)?.is_none()
+        {
             return Ok(false);
         }
     }
@@ -110,7 +109,7 @@ fn changed(
     leaves: &[Leaf],
 ) -> Changed {
     let mut changing = Changing::new::<FsPlainKey>(alloc, before);
-    assert!(rt; take_all(rt, source, &mut changing, leaves) == Ok(true));
+    assert!(rt; take_all(source, &mut changing, leaves) == Ok(true));
     changing.finish::<FsPlainKey>().ok().expect(rt, "a view")
 }
 
@@ -126,10 +125,12 @@ fn ids(alloc: Global, facts: &Facts) -> Result<Vec<u64>, AllocError> {
     Ok(ids)
 }
 
-// Asserts that some facts have these ids.
-fn assert_ids(rt: &impl Abort, alloc: Global, facts: &Facts, wanted: &[u64]) {
-    let ids = ids(alloc, facts).ok().expect(rt, "memory");
-    assert!(rt; ids.as_slice() == wanted);
+// Whether some facts have these ids.
+fn has_ids(alloc: Global, facts: &Facts, wanted: &[u64]) -> bool {
+    match ids(alloc, facts) {
+        Ok(ids) => ids.as_slice() == wanted,
+        Err(_) => false,
+    }
 }
 
 // The leaves of a view, its ids, those that are gone and have come since the view before if that was followed, whether its facts are in order, and how many reads were made till then.
@@ -142,7 +143,7 @@ struct View {
 }
 
 // The last one shares one leaf of two; the leaves of the third aren't those of a tree in order.
-const VIEWS: [View; 5] = [
+const VIEWS: &[View] = &[
     View {
         leaves: &[SEVEN, EIGHT, NINE],
         ids: &[1, 2, 3, 4, 5, 9, 10],
@@ -180,19 +181,22 @@ const VIEWS: [View; 5] = [
     },
 ];
 
-// Asserts what a view has, and what is gone and has come in it, if that was followed.
-fn assert_view(rt: &impl Abort, alloc: Global, changed: &Changed, view: &View) {
-    assert_ids(rt, alloc, changed.after.facts(), view.ids);
-    assert!(rt;
-        changed.after.records() == view.ids.len() as u64
-            && changed.after.is_in_order() == view.in_order
-            && changed.change.is_some() == view.change.is_some()
-    );
-    if let Some(change) = &changed.change {
-        let (gone, come) = view.change.unwrap_or((&[], &[]));
-        assert_ids(rt, alloc, &change.gone, gone);
-        assert_ids(rt, alloc, &change.come, come);
+// Whether what is gone and has come is what a row says, if that was followed.
+fn is_change(alloc: Global, changed: &Changed, view: &View) -> bool {
+    match (&changed.change, view.change) {
+        (Some(change), Some((gone, come))) => {
+            has_ids(alloc, &change.gone, gone) && has_ids(alloc, &change.come, come)
+        }
+        (None, None) => true,
+        _ => false,
     }
+}
+
+// Whether a view has what a row says.
+fn is_view(alloc: Global, changed: &Changed, view: &View) -> bool {
+    (changed.after.records(), changed.after.is_in_order()) == (view.ids.len() as u64, view.in_order)
+        && has_ids(alloc, changed.after.facts(), view.ids)
+        && is_change(alloc, changed, view)
 }
 
 // The view with the leaves of a row, after another.
@@ -204,8 +208,7 @@ fn view_after(
     view: &View,
 ) -> KeptView {
     let changed = changed(rt, alloc, source, before, view.leaves);
-    assert_view(rt, alloc, &changed, view);
-    assert!(rt; source.read_count() == view.reads);
+    assert!(rt; is_view(alloc, &changed, view) && source.read_count() == view.reads);
     changed.after
 }
 
@@ -213,14 +216,14 @@ fn view_after(
 fn facts_of_leaves_that_both_views_have_are_the_same(rt: HostRuntime) {
     let mut source = source(rt.alloc()).ok().expect(&rt, "memory");
     let mut before = KeptView::none::<FsPlainKey>(rt.alloc(), Names::Exact);
-    for view in &VIEWS {
+    for view in VIEWS {
         before = view_after(&rt, rt.alloc(), &mut source, before, view);
     }
 }
 
 // The names of a volume, and the leaves of a view: one outside the container, one in the block of another, and one whose keys have no hashes, where names are
 // hashed.
-const OUT_OF_PLACE: [(Names, &[Leaf]); 3] = [
+const OUT_OF_PLACE: &[(Names, &[Leaf])] = &[
     (Names::Exact, &[Leaf { oid: 7, block: 5 }]),
     (Names::Exact, &[Leaf { oid: 7, block: 4 }]),
     (Names::Normal, &[SEVEN]),
@@ -228,7 +231,6 @@ const OUT_OF_PLACE: [(Names, &[Leaf]); 3] = [
 
 // Whether all leaves of a first view are taken.
 fn takes_first(
-    rt: &impl Abort,
     alloc: Global,
     source: &mut MemSource,
     names: Names,
@@ -236,7 +238,7 @@ fn takes_first(
 ) -> Result<bool, Stop<()>> {
     let none = KeptView::none::<FsPlainKey>(alloc, names);
     let mut changing = Changing::new::<FsPlainKey>(alloc, none);
-    let taken = take_all(rt, source, &mut changing, leaves);
+    let taken = take_all(source, &mut changing, leaves);
     drop(changing);
     taken
 }
@@ -245,7 +247,7 @@ fn takes_first(
 fn a_leaf_out_of_place_is_not_taken(rt: HostRuntime) {
     let mut source = source(rt.alloc()).ok().expect(&rt, "memory");
     for (i, (names, leaves)) in OUT_OF_PLACE.iter().enumerate() {
-        let taken = takes_first(&rt, rt.alloc(), &mut source, *names, leaves);
+        let taken = takes_first(rt.alloc(), &mut source, *names, leaves);
         assert!(rt; taken == Ok(false), "leaf {i}");
     }
 }

@@ -238,60 +238,65 @@ fn the_first_failing_test_is_named(rt: HostRuntime) {
 // The entry's key has the id 5, and its value starts with 9.
 const FIVE_NINE: &[Edit] = &[(60, 5), (4040, 9)];
 
-#[test]
-fn an_entry_is_lent_from_its_block(rt: HostRuntime) {
-    let node = made(FIVE_NINE, &[]);
+// Whether a node is sound, and lends that entry from its block.
+fn lends(node: &[u8; 4096]) -> bool {
     let Ok(read) = NodeView::<OmapKey>::read(&node[..], &AT, &SITE) else {
-        panic!(rt; "not sound");
+        return false;
     };
-    assert!(rt; read.level() == 0 && read.len() == 1);
-    let view = NodeView::<OmapKey>::kept(&node[..], &AT, &SITE);
-    let entry = view.entry(0);
-    assert!(rt;
-        entry.key_bytes == &node[60..76]
-            && entry.value == Some(&node[4040..4056])
-            && entry.key == OmapKey { oid: 5, xid: 0 }
-    );
+    if (read.level(), read.len()) != (0, 1) {
+        return false;
+    }
+    let entry = NodeView::<OmapKey>::kept(&node[..], &AT, &SITE).entry(0);
+    entry.key_bytes == &node[60..76]
+        && entry.value == Some(&node[4040..4056])
+        && entry.key == OmapKey { oid: 5, xid: 0 }
 }
 
 const NO_ENTRY: &[Edit] = &[(COUNT, 0), (TABLE_LENGTH, 0)];
 
-#[test]
-fn a_root_without_entries_is_sound(rt: HostRuntime) {
-    let node = made(NO_ENTRY, &[]);
+// Whether a node is sound, and a root without entries.
+fn is_empty(node: &[u8; 4096]) -> bool {
     let Ok(view) = NodeView::<OmapKey>::read(&node[..], &AT, &SITE) else {
-        panic!(rt; "not sound");
+        return false;
     };
-    let info = view.info().expect(&rt, "no root");
-    assert!(rt;
-        view.len() == 0 && info.node_size == 4096 && info.key_count == 1 && info.node_count == 1
-    );
+    match view.info() {
+        Some(info) => {
+            (view.len(), info.node_size, info.key_count, info.node_count) == (0, 4096, 1, 1)
+        }
+        None => false,
+    }
 }
 
 // A queue's node, whose entry has no value.
 const QUEUE_GHOST: &[Edit] = &[(SUBTYPE, 9), (VALUE_OFFSET, 0xffff)];
 
-#[test]
-fn an_entry_of_a_queue_may_have_no_value(rt: HostRuntime) {
-    let node = made(QUEUE_GHOST, &[]);
-    let Ok(view) = NodeView::<QueueKey>::read(&node[..], &AT, &SITE) else {
-        panic!(rt; "not sound");
-    };
-    assert!(rt; view.len() == 1);
-    assert!(rt; view.entry(0).value == None);
+// Whether a queue's node is sound, and has an entry without a value.
+fn has_ghost(node: &[u8; 4096]) -> bool {
+    match NodeView::<QueueKey>::read(&node[..], &AT, &SITE) {
+        Ok(view) => view.len() == 1 && view.entry(0).value == None,
+        Err(_) => false,
+    }
 }
 
 // The number of the child is 9, with 1 in its highest byte.
 const PARENT: &[Edit] = &[(FLAGS, 5), (LEVEL, 1), (4040, 9), (4046, 0x100)];
 
+// Whether a node is sound, and names that child.
+fn names_child(node: &[u8; 4096]) -> bool {
+    match NodeView::<OmapKey>::read(&node[..], &AT, &SITE) {
+        Ok(view) => {
+            view.len() == 1 && view.level() == 1 && view.child(0) == 9 + 0x0100_0000_0000_0000
+        }
+        Err(_) => false,
+    }
+}
+
 #[test]
-fn a_node_above_the_leaves_names_children(rt: HostRuntime) {
-    let node = made(PARENT, &[]);
-    let Ok(view) = NodeView::<OmapKey>::read(&node[..], &AT, &SITE) else {
-        panic!(rt; "not sound");
-    };
-    assert!(rt; view.len() == 1 && view.level() == 1);
-    assert!(rt; view.child(0) == 9 + 0x0100_0000_0000_0000);
+fn entries_are_lent_and_children_named(rt: HostRuntime) {
+    assert!(rt; lends(&made(FIVE_NINE, &[])));
+    assert!(rt; is_empty(&made(NO_ENTRY, &[])));
+    assert!(rt; has_ghost(&made(QUEUE_GHOST, &[])));
+    assert!(rt; names_child(&made(PARENT, &[])));
 }
 
 // Where bytes start and end.
@@ -384,33 +389,38 @@ fn filled(alloc: Global, len: usize, bytes: &[(usize, u8)]) -> Result<Vec<u8>, A
     Ok(node)
 }
 
-// Asserts where the key and the value of the last entry of a node lie.
-fn assert_last(rt: &impl Abort, node: &[u8], at: &NodeAt, site: &Site, key: Part, value: Part) {
-    assert!(rt; is_accepted(site.block_size) && node.len() == site.block_size as usize);
+// Whether the key and the value of the last entry of a node lie where a row says.
+fn is_last(node: &[u8], at: &NodeAt, site: &Site, row: &Large) -> bool {
+    if !is_accepted(site.block_size) || node.len() != site.block_size as usize {
+        return false;
+    }
     let Ok(view) = NodeView::<OmapKey>::read(node, at, site) else {
-        panic!(rt; "not sound");
+        return false;
     };
     let last = view.len().saturating_sub(1);
-    assert!(rt; last < view.len());
+    if last >= view.len() {
+        return false;
+    }
     let entry = view.entry(last);
-    assert!(rt;
-        entry.key == OmapKey { oid: 5, xid: 1 }
-            && Some(entry.key_bytes) == node.get(key.0..key.1)
-            && entry.value == node.get(value.0..value.1)
-    );
+    let (_, _, _, key, value) = *row;
+    entry.key == OmapKey { oid: 5, xid: 1 }
+        && Some(entry.key_bytes) == node.get(key.0..key.1)
+        && entry.value == node.get(value.0..value.1)
+}
+
+fn is_large(alloc: Global, row: &Large) -> Result<bool, AllocError> {
+    let site = Site {
+        block_size: row.0,
+        ..SITE
+    };
+    let at = NodeAt { root: row.1, ..AT };
+    let node = filled(alloc, row.0 as usize, row.2)?;
+    Ok(is_last(&node, &at, &site, row))
 }
 
 #[test]
 fn larger_nodes_end_where_their_blocks_do(rt: HostRuntime) {
-    for (block_size, root, bytes, key, value) in LARGE {
-        let site = Site {
-            block_size: *block_size,
-            ..SITE
-        };
-        let at = NodeAt { root: *root, ..AT };
-        let node = filled(rt.alloc(), *block_size as usize, bytes)
-            .ok()
-            .expect(&rt, "memory");
-        assert_last(&rt, &node, &at, &site, *key, *value);
+    for (i, row) in LARGE.iter().enumerate() {
+        assert!(rt; is_large(rt.alloc(), row) == Ok(true), "node {i}");
     }
 }

@@ -6,8 +6,8 @@ use bt_keys::{FsKey, FsPlainKey, FsTreeKey};
 use bt_node::Entry;
 use fs_name::Names;
 use fs_record::{
-    AttrBody, DirEntry, FileExt, Inode, RecFault, StreamSize, attr, entry, file_ext, inode,
-    refused, sibling_link, sibling_map,
+    Attr, AttrBody, DirEntry, FileExt, Inode, RecFault, Sibling, StreamSize, attr, entry, file_ext,
+    inode, refused, sibling_link, sibling_map,
 };
 use std::alloc::{AllocError, Global};
 
@@ -59,13 +59,17 @@ fn stream_in(value: &[u8]) -> Result<Option<StreamSize>, RecFault> {
     Ok(inode(value)?.stream())
 }
 
+fn has_stream(alloc: Global, len: u8, padded: &[u8]) -> Result<bool, AllocError> {
+    Ok(stream_in(&inode_value(alloc, len, padded)?) == Ok(Some(STREAM)))
+}
+
 #[test]
 fn a_stream_is_found_after_a_padded_field(rt: HostRuntime) {
     for (len, padded) in PADDED {
-        let value = inode_value(rt.alloc(), *len, padded)
-            .ok()
-            .expect(&rt, "memory");
-        assert!(rt; stream_in(&value) == Ok(Some(STREAM)), "{len} bytes");
+        assert!(rt;
+            has_stream(rt.alloc(), *len, padded) == Ok(true),
+            "{len} bytes"
+        );
     }
 }
 
@@ -73,28 +77,16 @@ fn a_stream_is_found_after_a_padded_field(rt: HostRuntime) {
 fn is_inode(read: Result<Inode<'_>, RecFault>) -> bool {
     match read {
         Ok(inode) => {
-            inode.parent() == 2
-                && inode.private_id() == 16
-                && inode.links() == 1
-                && inode.bsd_flags() == 0x20
-                && inode.mode() == 0x8100
-                && inode.kind() == 8
+            (inode.parent(), inode.private_id(), inode.links()) == (2, 16, 1)
+                && (inode.bsd_flags(), inode.mode(), inode.kind()) == (0x20, 0x8100, 8)
                 && inode.stream() == Some(STREAM)
         }
         Err(_) => false,
     }
 }
 
-#[test]
-fn an_inode_is_read(rt: HostRuntime) {
-    let value = inode_value(rt.alloc(), 3, &[9; 8])
-        .ok()
-        .expect(&rt, "memory");
-    assert!(rt; is_inode(inode(&value)));
-}
-
 // How many of an inode's bytes there are, and its stream or why it is refused.
-const CUT_INODES: [(usize, Result<Option<StreamSize>, RecFault>); 5] = [
+const CUT_INODES: &[(usize, Result<Option<StreamSize>, RecFault>)] = &[
     (91, Err(RecFault::Length)),
     (92, Ok(None)),
     (95, Err(RecFault::Fields)),
@@ -102,15 +94,22 @@ const CUT_INODES: [(usize, Result<Option<StreamSize>, RecFault>); 5] = [
     (151, Err(RecFault::Fields)),
 ];
 
+// Whether an inode is read, and refused where it is cut.
+fn is_read(value: &[u8]) -> bool {
+    for (len, stream) in CUT_INODES {
+        if stream_in(value.get(..*len).unwrap_or(&[])) != *stream {
+            return false;
+        }
+    }
+    is_inode(inode(value))
+}
+
 #[test]
-fn an_inode_that_is_cut_is_refused(rt: HostRuntime) {
+fn an_inode_is_read_and_refused_where_it_is_cut(rt: HostRuntime) {
     let value = inode_value(rt.alloc(), 3, &[9; 8])
         .ok()
         .expect(&rt, "memory");
-    for (len, stream) in CUT_INODES {
-        let cut = value.get(..len).unwrap_or(&[]);
-        assert!(rt; stream_in(cut) == stream, "{len} bytes");
-    }
+    assert!(rt; is_read(&value));
 }
 
 // The keys of the entry `hello` of directory 2 with the hash 0x12345, and of the entry and the attribute `hello` without
@@ -134,11 +133,9 @@ const UNNAMED_KEY: &[u8] = &[2, 0, 0, 0, 0, 0, 0, 0x90, 1, 0, 0];
 fn is_hello(read: Result<DirEntry<'_>, RecFault>, hash: u32) -> bool {
     match read {
         Ok(entry) => {
-            entry.name() == "hello"
-                && entry.hash() == hash
-                && entry.file_id() == 16
-                && entry.kind() == 8
-                && entry.sibling() == Some(18)
+            (entry.hash(), entry.file_id(), entry.kind(), entry.sibling())
+                == (hash, 16, 8, Some(18))
+                && entry.name() == "hello"
         }
         Err(_) => false,
     }
@@ -174,19 +171,24 @@ const STREAMED_VALUE: &[u8] = &[
     0, 0, 0, 0, 0, 0, 0, 0, 0, 0, 0, 0, 0, 0, 0, 0, 0, 0, 0, 0, 0,
 ];
 
+const EMBEDDED: AttrBody<'static> = AttrBody::Embedded(&[7, 8, 9]);
+
+const STREAMED: AttrBody<'static> = AttrBody::Stream { id: 20, size: 5 };
+
+fn is_attribute(read: Result<Attr<'_>, RecFault>, body: AttrBody<'_>) -> bool {
+    match read {
+        Ok(attr) => attr.name() == "hello" && attr.body() == body,
+        Err(_) => false,
+    }
+}
+
 #[test]
 #[tactic(auto, unfolding(bt_keys::specs::RecordKey::plain_name_len, apfs_model::specs::Bytes::u16_at))]
 fn an_attribute_is_read(rt: HostRuntime) {
-    let embedded = attr(PLAIN_KEY, EMBEDDED_VALUE);
-    assert!(rt; embedded.is_ok());
-    if let Ok(attr) = embedded {
-        assert!(rt; attr.name() == "hello" && attr.body() == AttrBody::Embedded(&[7, 8, 9]));
-    }
-    let streamed = attr(PLAIN_KEY, STREAMED_VALUE);
-    assert!(rt; streamed.is_ok());
-    if let Ok(attr) = streamed {
-        assert!(rt; attr.body() == AttrBody::Stream { id: 20, size: 5 });
-    }
+    assert!(rt;
+        is_attribute(attr(PLAIN_KEY, EMBEDDED_VALUE), EMBEDDED)
+            && is_attribute(attr(PLAIN_KEY, STREAMED_VALUE), STREAMED)
+    );
 }
 
 // Values of no attribute, and why they are refused.
@@ -214,17 +216,21 @@ const LINK_VALUE: &[u8] = &[2, 0, 0, 0, 0, 0, 0, 0, 2, 0, b'a', 0];
 // The value of a sibling map: the file 16.
 const MAP_VALUE: &[u8] = &[16, 0, 0, 0, 0, 0, 0, 0];
 
+fn is_link(read: Result<Sibling<'_>, RecFault>) -> bool {
+    match read {
+        Ok(link) => {
+            (link.file(), link.sibling(), link.parent()) == (16, 18, 2) && link.name() == "a"
+        }
+        Err(_) => false,
+    }
+}
+
 #[test]
 fn siblings_are_read(rt: HostRuntime) {
-    let read = sibling_link(SECOND_KEY, LINK_VALUE);
-    assert!(rt; read.is_ok());
-    if let Ok(link) = read {
-        assert!(rt;
-            link.file() == 16 && link.sibling() == 18 && link.parent() == 2 && link.name() == "a"
-        );
-    }
     assert!(rt;
-        sibling_map(MAP_VALUE) == Ok(16) && sibling_map(&MAP_VALUE[..1]) == Err(RecFault::Length)
+        is_link(sibling_link(SECOND_KEY, LINK_VALUE))
+            && sibling_map(MAP_VALUE) == Ok(16)
+            && sibling_map(&MAP_VALUE[..1]) == Err(RecFault::Length)
     );
 }
 
@@ -265,17 +271,16 @@ fn an_extent_is_read(rt: HostRuntime) {
 }
 
 // How many bytes an extent has, and how many blocks.
-const LENGTHS: [(u64, u64); 6] = [(0, 0), (1, 1), (4095, 1), (4096, 1), (4097, 2), (8192, 2)];
+const LENGTHS: &[(u64, u64)] = &[(0, 0), (1, 1), (4095, 1), (4096, 1), (4097, 2), (8192, 2)];
 
 #[test]
 fn an_extent_has_the_blocks_of_its_length(rt: HostRuntime) {
     for (length, wanted) in LENGTHS {
         let extent = FileExt {
-            logical: 0,
-            length,
-            block: 57,
+            length: *length,
+            ..EXTENT
         };
-        assert!(rt; extent.blocks(4096) == wanted);
+        assert!(rt; extent.blocks(4096) == *wanted);
     }
 }
 

@@ -1,6 +1,6 @@
 // Walks over trees that are written here.
 
-ghost use Rattle.std.specs.Prelude.{◌≡◌, ◌≤◌, length};
+ghost use Rattle.std.specs.Prelude.{◌≡◌, ◌≤◌, IfOk, length};
 ghost use Rattle.obj_base.specs.Site.{IsSiteFor};
 ghost use Rattle.bt_cursor.specs.Cursors.{site_of as cursor_site};
 ghost use Rattle.bt_cursor.specs.Liners.{site_of as liner_site};
@@ -15,7 +15,7 @@ use bt_keys::{FsKey, FsPlainKey, QueueKey};
 use bt_node::{Rank, Site, TreeKey};
 use image::{Form, Node, tree_image};
 use obj_base::Stop;
-use std::alloc::Global;
+use std::alloc::{AllocError, Global};
 use std::process::Abort;
 use trees::*;
 
@@ -28,14 +28,14 @@ const SITE: Site = Site {
 const PHYSICAL: Physical = Physical { blocks: 8 };
 
 // The container of a tree, and the number of the read that fails, if any does.
-fn container(rt: &impl Abort, alloc: Global, form: Form, nodes: &[Node], fails: u64) -> MemSource
-    ensures { 32768 ≤ length result.bytes }
+fn container(alloc: Global, form: Form, nodes: &[Node], fails: u64) -> Result<MemSource, AllocError>
+    ensures { IfOk result (λ src. 32768 ≤ length src.bytes) }
 {
-    let image = tree_image(alloc, 4096, form, nodes)
-        .ok()
-        .expect(rt, "memory");
-    assert!(rt; image.len() >= 32768);
-    MemSource::new(image, vec![in alloc; fails].ok().expect(rt, "memory"))
+    let image = tree_image(alloc, 4096, form, nodes)?;
+    if image.len() < 32768 {
+        return Err(AllocError);
+    }
+    Ok(MemSource::new(image, vec![in alloc; fails]?))
 }
 
 // Adds the items of a Line, until the walk stops.
@@ -120,37 +120,20 @@ fn flat<K: TreeKey>(
     end
 }
 
-// How a walk ends.
-type End = Result<(), Stop<WalkFault>>;
-
-fn assert_line<K: TreeKey>(
-    rt: &impl Abort,
-    alloc: Global,
-    form: Form,
-    nodes: &[Node],
-    fails: u64,
-    items: &[Item],
-    end: End,
-) {
-    let mut src = container(rt, alloc, form, nodes, fails);
+// Whether the Line of a tree has the items of a walk, and ends as it does.
+fn is_line<K: TreeKey>(alloc: Global, form: Form, walk: &Walk) -> Result<bool, AllocError> {
+    let mut src = container(alloc, form, walk.0, walk.1)?;
     let mut passed = Vec::new(alloc);
-    let stop = line::<K>(alloc, &mut src, &mut passed);
-    assert!(rt; stop == end && passed.as_slice() == items);
+    let end = line::<K>(alloc, &mut src, &mut passed);
+    Ok(end == walk.3 && passed.as_slice() == walk.2)
 }
 
-fn assert_flat<K: TreeKey>(
-    rt: &impl Abort,
-    alloc: Global,
-    form: Form,
-    nodes: &[Node],
-    from: Option<Rank>,
-    items: &[Item],
-    end: End,
-) {
-    let mut src = container(rt, alloc, form, nodes, 0);
+// Whether the flat list of a tree has the entries of a search, and ends as it does.
+fn is_flat<K: TreeKey>(alloc: Global, form: Form, search: &Search) -> Result<bool, AllocError> {
+    let mut src = container(alloc, form, search.0, 0)?;
     let mut passed = Vec::new(alloc);
-    let stop = flat::<K>(alloc, &mut src, from, &mut passed);
-    assert!(rt; stop == end && passed.as_slice() == items);
+    let end = flat::<K>(alloc, &mut src, search.1, &mut passed);
+    Ok(end == search.3 && passed.as_slice() == search.2)
 }
 
 // A rank of an id and a kind.
@@ -164,10 +147,7 @@ macro_rules! rank {
     };
 }
 
-// A tree, the number of the read that fails, if any does, the items of its Line, and how its walk ends.
-type Walk = (&'static [Node], u64, &'static [Item], End);
-
-const LINES: [Walk; 3] = [
+const LINES: &[Walk] = &[
     (THREE_LEVELS, 0, THREE_LEVELS_LINE, Ok(())),
     (NO_KEY, 0, &[], Ok(())),
     (
@@ -178,19 +158,24 @@ const LINES: [Walk; 3] = [
     ),
 ];
 
-#[test]
-fn whole_lines_and_a_failed_read(rt: HostRuntime) {
-    for (nodes, fails, items, end) in LINES {
-        assert_line::<QueueKey>(&rt, rt.alloc(), QUEUE, nodes, fails, items, end);
+// Asserts that trees of a queue's keys have these Lines.
+fn assert_lines(rt: &impl Abort, alloc: Global, walks: &[Walk]) {
+    for (i, walk) in walks.iter().enumerate() {
+        assert!(rt;
+            is_line::<QueueKey>(alloc, QUEUE, walk) == Ok(true),
+            "walk {i}"
+        );
     }
 }
 
 #[test]
+fn whole_lines_and_a_failed_read(rt: HostRuntime) {
+    assert_lines(&rt, rt.alloc(), LINES);
+}
+
+#[test]
 fn lines_that_stop(rt: HostRuntime) {
-    for (nodes, items, fault) in TWO_LEAVES {
-        let end = Err(Stop::Found(*fault));
-        assert_line::<QueueKey>(&rt, rt.alloc(), QUEUE, nodes, 0, items, end);
-    }
+    assert_lines(&rt, rt.alloc(), TWO_LEAVES);
 }
 
 const OUT_OF_ORDER: End = Err(Stop::Found(WalkFault::Order { item: 3 }));
@@ -204,7 +189,7 @@ const ONCE: &[Item] = &[(1, 2, 3), (0, 2, 3), (1, 2, 3)];
 
 // Trees that name a child twice. A directory's entries may have equal ranks, in one leaf and across two; an inode's key
 // stands once.
-const NAMED_TWICE: [Walk; 3] = [
+const NAMED_TWICE: &[Walk] = &[
     (COUNTED_TWICE, 0, TWICE, Ok(())),
     (COUNTED_ONCE, 0, TWICE, COUNTED_WRONG),
     (INODE_TWICE, 0, ONCE, OUT_OF_ORDER),
@@ -212,9 +197,11 @@ const NAMED_TWICE: [Walk; 3] = [
 
 #[test]
 fn a_repeated_child(rt: HostRuntime) {
-    for (nodes, fails, items, end) in NAMED_TWICE {
-        assert_line::<FsPlainKey>(&rt, rt.alloc(), PLAIN, nodes, fails, items, end);
-        assert_line::<FsKey>(&rt, rt.alloc(), HASHED, nodes, fails, items, end);
+    for walk in NAMED_TWICE {
+        assert!(rt;
+            is_line::<FsPlainKey>(rt.alloc(), PLAIN, walk) == Ok(true)
+                && is_line::<FsKey>(rt.alloc(), HASHED, walk) == Ok(true)
+        );
     }
 }
 
@@ -225,7 +212,7 @@ const MISSING: End = Err(Stop::Found(WalkFault::Unnamed { oid: 9 }));
 
 // Where a child isn't there, the entries before it are given, and it is named when it comes next, unless the search goes past
 // it.
-const SEARCHES: [Search; 11] = [
+const SEARCHES: &[Search] = &[
     (THREE_LEVELS, None, THREE_LEVELS_LIST, Ok(())),
     (THREE_LEVELS, rank!(0, 0), THREE_LEVELS_LIST, Ok(())),
     (
@@ -246,8 +233,11 @@ const SEARCHES: [Search; 11] = [
 
 #[test]
 fn flat_lists_and_a_missing_child(rt: HostRuntime) {
-    for (nodes, from, items, end) in SEARCHES {
-        assert_flat::<QueueKey>(&rt, rt.alloc(), QUEUE, nodes, from, items, end);
+    for (i, search) in SEARCHES.iter().enumerate() {
+        assert!(rt;
+            is_flat::<QueueKey>(rt.alloc(), QUEUE, search) == Ok(true),
+            "search {i}"
+        );
     }
 }
 
@@ -266,22 +256,30 @@ fn larger_list(alloc: Global, src: &mut MemSource, items: &mut Vec<Item>) -> End
     end
 }
 
+const SEVEN_ALONE: &[Item] = &[(0, 7, 0)];
+
+fn is_larger_list(alloc: Global) -> Result<bool, AllocError> {
+    let image = tree_image(alloc, 16384, QUEUE, KEY_SEVEN)?;
+    if image.len() < 131072 {
+        return Ok(false);
+    }
+    let mut items = Vec::new(alloc);
+    let end = larger_list(
+        alloc,
+        &mut MemSource::new(image, Vec::new(alloc)),
+        &mut items,
+    );
+    Ok(end == Ok(()) && items.as_slice() == SEVEN_ALONE)
+}
+
 #[test]
 fn larger_blocks(rt: HostRuntime) {
-    let alloc = rt.alloc();
-    let image = tree_image(alloc, 16384, QUEUE, KEY_SEVEN)
-        .ok()
-        .expect(&rt, "memory");
-    assert!(rt; image.len() >= 131072);
-    let mut src = MemSource::new(image, Vec::new(alloc));
-    let mut items = Vec::new(alloc);
-    let end = larger_list(alloc, &mut src, &mut items);
-    assert!(rt; end == Ok(()) && items.as_slice() == [(0, 7, 0)].as_slice());
+    assert!(rt; is_larger_list(rt.alloc()) == Ok(true));
 }
 
 // Searches among records. The kind stands in the high bits of a key's first word, and counts after the id. Equal ranks over
 // two leaves are given from the first of them on.
-const BY_RANKS: [Search; 2] = [
+const BY_RANKS: &[Search] = &[
     (TWO_RANKS, rank!(16, 3), &[(0, 16, 3)], Ok(())),
     (
         EQUAL_RANKS,
@@ -293,8 +291,10 @@ const BY_RANKS: [Search; 2] = [
 
 #[test]
 fn searches_by_ranks(rt: HostRuntime) {
-    for (nodes, from, items, end) in BY_RANKS {
-        assert_flat::<FsKey>(&rt, rt.alloc(), HASHED, nodes, from, items, end);
-        assert_flat::<FsPlainKey>(&rt, rt.alloc(), PLAIN, nodes, from, items, end);
+    for search in BY_RANKS {
+        assert!(rt;
+            is_flat::<FsKey>(rt.alloc(), HASHED, search) == Ok(true)
+                && is_flat::<FsPlainKey>(rt.alloc(), PLAIN, search) == Ok(true)
+        );
     }
 }

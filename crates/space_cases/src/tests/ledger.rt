@@ -6,7 +6,6 @@ use img_make::table;
 use own_ledger::ClaimFault::{Outside, Twice};
 use own_ledger::{ClaimFault, Difference, Ledger};
 use std::alloc::Global;
-use std::test::Fail;
 
 // A ledger of the blocks from 0 to 99, of which it holds those from 10 to 19.
 fn ten_of_a_hundred(alloc: Global) -> Result<Ledger, NoMemory>
@@ -33,20 +32,29 @@ const CLAIMS: &[(u64, u64, Result<(), ClaimFault>, u64)] = table! {
     99, 1, Ok(()), 11;
 };
 
+// What a claim answers, and how many blocks are held after it.
+fn claimed(
+    alloc: Global,
+    first: u64,
+    length: u64,
+) -> Result<(Result<(), ClaimFault>, u64), NoMemory> {
+    let mut ledger = ten_of_a_hundred(alloc)?;
+    let answer = ledger.claim(first, length);
+    Ok((answer, ledger.held()))
+}
+
 #[test]
-fn claims(rt: HostRuntime) -> Result<(), Fail> {
+fn claims(rt: HostRuntime) {
     for (first, length, want, held) in CLAIMS {
-        let mut ledger = ten_of_a_hundred(rt.alloc())?;
         assert!(rt;
-            ledger.claim(*first, *length) == *want && ledger.held() == *held,
+            claimed(rt.alloc(), *first, *length) == Ok((*want, *held)),
             "{first} {length}"
         );
     }
-    Ok(())
 }
 
 // A block, and whether it is held.
-const HELD: [(u64, bool); 9] = [
+const HELD: &[(u64, bool)] = &[
     (999, false),
     (1002, false),
     (1003, true),
@@ -58,31 +66,39 @@ const HELD: [(u64, bool); 9] = [
     (6003, false),
 ];
 
-#[test]
-fn long_claims(rt: HostRuntime) -> Result<(), Fail> {
-    let mut ledger = Ledger::new(rt.alloc(), 1000, 5003)?;
-    assert!(rt; ledger.claim(1003, 4000) == Ok(()) && ledger.held() == 4000);
+fn holds_as_said(ledger: &Ledger) -> bool {
     for (block, want) in HELD {
-        assert!(rt; ledger.holds(block) == want, "{block}");
+        if ledger.holds(*block) != *want {
+            return false;
+        }
     }
-    assert!(rt;
-        ledger.claim(5003, 1000) == Ok(())
-            && ledger.claim(1000, 5003) == Err(Twice { block: 1003 })
-            && ledger.held() == 5000
-    );
-    Ok(())
+    true
 }
 
-#[test]
-fn a_claim_finds_a_block_far_away(rt: HostRuntime) -> Result<(), Fail> {
-    let mut ledger = Ledger::new(rt.alloc(), 0, 5000)?;
-    assert!(rt;
-        ledger.claim(4321, 1) == Ok(())
-            && ledger.claim(3, 4997) == Err(Twice { block: 4321 })
-            && ledger.claim(3, 4318) == Ok(())
-            && ledger.held() == 4319
+const TWICE: Result<(), ClaimFault> = Err(Twice { block: 1003 });
+
+fn are_long_claims(alloc: Global) -> Result<bool, NoMemory> {
+    let mut ledger = Ledger::new(alloc, 1000, 5003)?;
+    let first = (ledger.claim(1003, 4000), ledger.held());
+    let as_said = holds_as_said(&ledger);
+    let then = (
+        ledger.claim(5003, 1000),
+        ledger.claim(1000, 5003),
+        ledger.held(),
     );
-    Ok(())
+    Ok(first == (Ok(()), 4000) && as_said && then == (Ok(()), TWICE, 5000))
+}
+
+const FAR_AWAY: Result<(), ClaimFault> = Err(Twice { block: 4321 });
+
+fn is_found_far_away(alloc: Global) -> Result<bool, NoMemory> {
+    let mut ledger = Ledger::new(alloc, 0, 5000)?;
+    let claims = (
+        ledger.claim(4321, 1),
+        ledger.claim(3, 4997),
+        ledger.claim(3, 4318),
+    );
+    Ok(claims == (Ok(()), FAR_AWAY, Ok(())) && ledger.held() == 4319)
 }
 
 // A difference: the block, and whether it is held.
@@ -96,7 +112,7 @@ macro_rules! of {
 }
 
 // The first block and the number of blocks that are compared, their bits, and the difference.
-const DIFFERENCES: [(u64, u64, [u8; 4], Option<Difference>); 9] = [
+const DIFFERENCES: &[(u64, u64, [u8; 4], Option<Difference>)] = &[
     (0, 24, [0x00, 0xfc, 0x0f, 0xff], None),
     (0, 24, [0x00, 0xfc, 0x0e, 0x00], of!(16, true)),
     (0, 24, [0x00, 0x7c, 0x0f, 0x00], of!(15, true)),
@@ -108,29 +124,41 @@ const DIFFERENCES: [(u64, u64, [u8; 4], Option<Difference>); 9] = [
     (8, 0, [0xff, 0xff, 0xff, 0xff], None),
 ];
 
-#[test]
-fn differences(rt: HostRuntime) -> Result<(), Fail> {
-    let ledger = ten_of_a_hundred(rt.alloc())?;
-    for (first, blocks, bits, want) in DIFFERENCES {
-        assert!(rt; first % 8 == 0 && first <= 64 && blocks <= 32);
-        let found = ledger.compare(first, blocks, &bits);
-        assert!(rt; found == want, "{first} {blocks}");
-    }
-    Ok(())
+fn is_difference(ledger: &Ledger, row: &(u64, u64, [u8; 4], Option<Difference>)) -> bool
+    requires first { ledger.now.first ≡ 0 }
+    requires blocks { ledger.now.blocks ≡ 100 }
+{
+    let (first, blocks, bits, want) = *row;
+    first % 8 == 0 && first <= 64 && blocks <= 32 && ledger.compare(first, blocks, &bits) == want
 }
 
 #[test]
-fn parts_are_held(rt: HostRuntime) -> Result<(), Fail> {
-    let mut ledger = Ledger::new(rt.alloc(), 100, 50)?;
+fn differences(rt: HostRuntime) {
+    let ledger = ten_of_a_hundred(rt.alloc()).ok().expect(&rt, "memory");
+    for (i, row) in DIFFERENCES.iter().enumerate() {
+        assert!(rt; is_difference(&ledger, row), "row {i}");
+    }
+}
+
+// How many blocks are held after parts of them were, and then, after a restart, how many are, and whether it is the one.
+fn parts(alloc: Global) -> Result<(u64, u64, u64, bool), NoMemory> {
+    let mut ledger = Ledger::new(alloc, 100, 50)?;
     ledger.hold(90, 15);
     ledger.hold(140, 100);
     ledger.hold(102, 3);
     ledger.hold(0, 100);
     ledger.hold(u64::MAX, 5);
-    assert!(rt; ledger.held() == 15);
+    let before = ledger.held();
     ledger.restart(1000);
-    assert!(rt; ledger.held() == 0);
+    let none = ledger.held();
     ledger.hold(1049, 7);
-    assert!(rt; ledger.held() == 1 && ledger.holds(1049));
-    Ok(())
+    Ok((before, none, ledger.held(), ledger.holds(1049)))
+}
+
+#[test]
+fn long_claims_and_parts_are_held(rt: HostRuntime) {
+    let alloc = rt.alloc();
+    assert!(rt; are_long_claims(alloc) == Ok(true));
+    assert!(rt; is_found_far_away(alloc) == Ok(true));
+    assert!(rt; parts(alloc) == Ok((15, 0, 1, true)));
 }

@@ -1,14 +1,13 @@
 // The pool and the queues of made containers.
 
 use apfs_layout::space_manager::{MAIN_QUEUE_TREE, POOL_BITMAP_SIZE};
-use blk_source::MemSource;
-use img_make::{Plan, Sample, edit, made, sample, table};
+use blk_source::{MemSource, NoMemory};
+use img_make::{Plan, Sample, edit, make, sample, table};
 use nx_ring::newest;
 use obj_base::Stop;
 use space_map::Space;
 use space_pool::{PoolFault, Queue, QueueEntry, pool_bits, queue};
 use std::alloc::Global;
-use std::test::Fail;
 
 // The space manager of the small container, and where its indexes of the pool's bitmap begin.
 const MANAGER: usize = 9;
@@ -18,11 +17,15 @@ const INDEXES: usize = 2520;
 // An edit of the manager: a place and its new bytes.
 type Edit<'a> = (usize, &'a [u8]);
 
-fn image(alloc: Global, plan: &Plan, edits: &[Edit<'_>]) -> Result<Vec<u8>, Fail> {
-    let mut image = made(alloc, plan)?;
+// The container of a plan, changed by these edits; what is wrong with them is told as want of memory.
+fn image(alloc: Global, plan: &Plan, edits: &[Edit<'_>]) -> Result<Vec<u8>, NoMemory> {
+    if !plan.valid() {
+        return Err(NoMemory);
+    }
+    let mut image = make(alloc, plan)?;
     for (place, bytes) in edits.iter() {
         if !edit(&mut image, 4096, MANAGER, *place, bytes) {
-            return Err(Fail::from("no such place"));
+            return Err(NoMemory);
         }
     }
     Ok(image)
@@ -56,19 +59,19 @@ fn entries(
     queue(alloc, &mut src, &cp, &space, which)
 }
 
-#[test]
-fn two_blocks_of_the_pool_are_marked(rt: HostRuntime) -> Result<(), Fail> {
-    let alloc = rt.alloc();
+// The pool's bits of the small container, changed by these edits.
+fn bits_after(alloc: Global, edits: &[Edit<'_>]) -> Result<Vec<u8>, Stop<PoolFault>> {
     let plan = sample(alloc, Sample::S)?;
-    let Ok(bits) = bits(alloc, image(alloc, &plan, &[])?) else {
-        panic!(rt; "there are no bits");
-    };
-    assert!(rt;
-        bits.len() == 4096
-            && bits.first().copied() == Some(3)
-            && bits.iter().skip(1).all(|byte| *byte == 0)
-    );
-    Ok(())
+    bits(alloc, image(alloc, &plan, edits)?)
+}
+
+// The bits of a block, of which the first two are set.
+const TWO_OF_A_BLOCK: Option<&[u8]> = Some(&[3, 0, 0, 0, 0, 0, 0, 0]);
+
+fn has_two_bits(alloc: Global) -> Result<bool, Stop<PoolFault>> {
+    let bits = bits_after(alloc, &[])?;
+    let others = vec![in alloc; 0u8; 4088]?;
+    Ok(bits.len() == 4096 && bits.get(..8) == TWO_OF_A_BLOCK && bits.get(8..) == Some(&others))
 }
 
 // Edits, and the fault.
@@ -79,37 +82,53 @@ const FAULTS: &[(&[Edit<'static>], PoolFault)] = table! {
 };
 
 #[test]
-fn what_is_wrong_with_the_bitmap(rt: HostRuntime) -> Result<(), Fail> {
-    let alloc = rt.alloc();
-    let plan = sample(alloc, Sample::S)?;
+fn what_is_wrong_with_the_bitmap(rt: HostRuntime) {
     for (edits, fault) in FAULTS {
-        assert!(rt; bits(alloc, image(alloc, &plan, edits)?).err() == Some(Stop::Found(*fault)));
+        assert!(rt; bits_after(rt.alloc(), edits).err() == Some(Stop::Found(*fault)));
+    }
+}
+
+// The entries of the main queue: a transaction, the first block, and the number of blocks.
+const QUEUED: &[(u64, u64, u64)] = &[(1, 100, 1), (1, 102, 3)];
+
+// Adds those entries to a plan.
+fn add_queued(plan: &mut Plan) -> Result<(), NoMemory> {
+    for (xid, paddr, length) in QUEUED {
+        plan.queued.push(img_make::QueueEntry {
+            xid: *xid,
+            paddr: *paddr,
+            length: *length,
+        })?;
     }
     Ok(())
 }
 
-// The entries of the main queue: a transaction, the first block, and the number of blocks.
-const QUEUED: [(u64, u64, u64); 2] = [(1, 100, 1), (1, 102, 3)];
-
-#[test]
-fn what_waits_in_a_queue(rt: HostRuntime) -> Result<(), Fail> {
-    let alloc = rt.alloc();
-    let mut plan = sample(alloc, Sample::S)?;
-    for (xid, paddr, length) in QUEUED {
-        plan.queued
-            .push(img_make::QueueEntry { xid, paddr, length })?;
+// Whether these are those entries.
+fn are_queued(entries: &[QueueEntry]) -> bool {
+    for (entry, wanted) in entries.iter().zip(QUEUED) {
+        if (entry.xid, entry.paddr, entry.length) != *wanted {
+            return false;
+        }
     }
-    let Ok(main) = entries(alloc, image(alloc, &plan, &[])?, Queue::Main) else {
-        panic!(rt; "there is no main queue");
-    };
-    let found = main
-        .iter()
-        .map(|entry| (entry.xid, entry.paddr, entry.length))
-        .collect::<Vec<_>>(alloc)?;
-    assert!(rt; found.as_slice() == QUEUED.as_slice());
-    let pool = entries(alloc, image(alloc, &plan, &[])?, Queue::Pool);
-    assert!(rt; pool.is_ok_and(|entries| entries.is_empty()));
-    Ok(())
+    entries.len() == QUEUED.len()
+}
+
+// A queue of the container in which those entries wait.
+fn waiting(alloc: Global, which: Queue) -> Result<Vec<QueueEntry>, Stop<PoolFault>> {
+    let mut plan = sample(alloc, Sample::S)?;
+    add_queued(&mut plan)?;
+    entries(alloc, image(alloc, &plan, &[])?, which)
+}
+
+fn are_waiting(alloc: Global) -> Result<bool, Stop<PoolFault>> {
+    let main = waiting(alloc, Queue::Main)?;
+    Ok(are_queued(&main) && waiting(alloc, Queue::Pool)?.is_empty())
+}
+
+// How many entries the main queue of the small container has, changed by these edits.
+fn main_after(alloc: Global, edits: &[Edit<'_>]) -> Result<usize, Stop<PoolFault>> {
+    let plan = sample(alloc, Sample::S)?;
+    Ok(entries(alloc, image(alloc, &plan, edits)?, Queue::Main)?.len())
 }
 
 // The main queue has no tree.
@@ -121,14 +140,10 @@ const ELSEWHERE: &[Edit<'static>] = &[(MAIN_QUEUE_TREE, &[0x88, 0x13])];
 const UNNAMED: Stop<PoolFault> = Stop::Found(PoolFault::Unnamed { oid: 5000 });
 
 #[test]
-fn a_queue_without_a_tree(rt: HostRuntime) -> Result<(), Fail> {
+fn two_blocks_are_marked_and_two_entries_wait(rt: HostRuntime) {
     let alloc = rt.alloc();
-    let plan = sample(alloc, Sample::S)?;
-    let without = image(alloc, &plan, WITHOUT)?;
-    let none = entries(alloc, without, Queue::Main);
-    assert!(rt; none.is_ok_and(|entries| entries.is_empty()));
-    let elsewhere = image(alloc, &plan, ELSEWHERE)?;
-    let stop = entries(alloc, elsewhere, Queue::Main).err();
-    assert!(rt; stop == Some(UNNAMED));
-    Ok(())
+    assert!(rt; has_two_bits(alloc) == Ok(true));
+    assert!(rt; are_waiting(alloc) == Ok(true));
+    assert!(rt; main_after(alloc, WITHOUT) == Ok(0));
+    assert!(rt; main_after(alloc, ELSEWHERE) == Err(UNNAMED));
 }

@@ -1,11 +1,11 @@
 // The small container against ranges that are given by hand. Its blocks from 0 to 56 are used, of 256 in one chunk; its pool is
 // the blocks from 43 to 50, of which the first two are used.
-ghost use Rattle.std.specs.Prelude.{IfOk};
+ghost use Rattle.std.specs.Prelude.{◌≡◌, IfOk};
 ghost use Rattle.obj_base.specs.Site.{IsSiteFor};
 
 use apfs_layout::chunk_info::{CHUNK_FREE, CIB_ENTRIES};
 use apfs_layout::space_manager::MAIN_FREE;
-use blk_source::{BlockSource, MemSource};
+use blk_source::{BlockSource, MemSource, NoMemory};
 use img_make::{Sample, edit, make, make_with, sample, table, write};
 use nx_ring::newest;
 use obj_base::Stop;
@@ -14,7 +14,6 @@ use reach_rules::ReachFault;
 use reach_rules::ReachFault::*;
 use space_map::Space;
 use std::alloc::Global;
-use std::test::Fail;
 
 type Ranges = &'static [(u64, u64)];
 
@@ -27,16 +26,10 @@ const CIB: usize = 43;
 
 const BITMAP: usize = 44;
 
-// The small container with blocks of a size, of which some are edited and sealed again; a bitmap has no sum.
-fn image(alloc: Global, size: u32, edits: &[Edit]) -> Result<Vec<u8>, Fail> {
-    let plan = sample(alloc, Sample::S)?;
-    if !plan.valid() || plan.blocks > 256 {
-        return Err(Fail::from("the plan isn't valid"));
-    }
-    if size == 65536 {
-        return Ok(make_with(alloc, &plan, 65536)?);
-    }
-    let mut image = make(alloc, &plan)?;
+// The small container, of which some blocks are edited and sealed again; a bitmap has no sum. What is wrong with the edits is told as
+// want of memory.
+fn image(alloc: Global, edits: &[Edit]) -> Result<Vec<u8>, NoMemory> {
+    let mut image = make(alloc, &sample(alloc, Sample::S)?)?;
     for (block, place, bytes) in edits.iter() {
         let done = if *block == BITMAP {
             write(&mut image, 4096, *block, *place, bytes)
@@ -44,49 +37,62 @@ fn image(alloc: Global, size: u32, edits: &[Edit]) -> Result<Vec<u8>, Fail> {
             edit(&mut image, 4096, *block, *place, bytes)
         };
         if !done {
-            return Err(Fail::from("no such place"));
+            return Err(NoMemory);
         }
     }
     Ok(image)
 }
 
-// The space of an image, by its newest checkpoint.
-fn load<S: BlockSource>(alloc: Global, src: &mut S) -> Result<Space, Fail>
+// The small container with blocks of 65,536 bytes.
+fn large(alloc: Global) -> Result<Vec<u8>, NoMemory> {
+    let plan = sample(alloc, Sample::S)?;
+    if !plan.valid() || plan.blocks > 256 {
+        return Err(NoMemory);
+    }
+    make_with(alloc, &plan, 65536)
+}
+
+// The space of an image, by its newest checkpoint; a fault of the layers below is no answer of these tests.
+fn load<S: BlockSource>(alloc: Global, src: &mut S) -> Result<Space, NoMemory>
     ensures { IfOk result (λ space. IsSiteFor space.site (S.bytes_len src.new)) }
 {
     let Ok(cp) = newest(alloc, src) else {
-        return Err(Fail::from("no checkpoint"));
+        return Err(NoMemory);
     };
     match Space::load(alloc, src, &cp) {
         Ok(space) => Ok(space),
-        Err(_) => Err(Fail::from("no space")),
+        Err(_) => Err(NoMemory),
     }
 }
 
-// What ranges of the container, and of the pool whose bits are given in one byte, come to.
-fn settled(
-    alloc: Global,
-    image: Vec<u8>,
-    fails: Vec<u64>,
-    owners: Ranges,
-    pool_owners: Ranges,
-    pool: u8,
-) -> Result<Result<u64, Stop<ReachFault>>, Fail> {
-    let mut src = MemSource::new(image, fails);
-    let space = load(alloc, &mut src)?;
+// Ranges of the container, and of the pool, whose bits are given in one byte.
+type Owned = (Ranges, Ranges, u8);
+
+// What was reached, with these ranges.
+fn reached(alloc: Global, space: Space, owned: Owned) -> Result<Reached, NoMemory>
+    ensures { IfOk result (λ reached. reached.space ≡ space) }
+{
     let blocks = space.site().blocks;
     let (first, count) = space.pool();
     if first > blocks || count > blocks - first || count > 8 {
-        return Err(Fail::from("another pool"));
+        return Err(NoMemory);
     }
-    let reached = Reached::new(
+    Ok(Reached::new(
         0,
-        owners.to_vec(alloc)?,
-        pool_owners.to_vec(alloc)?,
+        owned.0.to_vec(alloc)?,
+        owned.1.to_vec(alloc)?,
         space,
-        vec![in alloc; pool]?,
-    );
-    Ok(settle(alloc, &mut src, &reached))
+        vec![in alloc; owned.2]?,
+    ))
+}
+
+// What ranges come to in a source.
+fn settled(alloc: Global, src: &mut MemSource, owned: Owned) -> Result<u64, Stop<ReachFault>> {
+    let space = load(alloc, src)?;
+    let reached = reached(alloc, space, owned)?;
+    let settled = settle(alloc, src, &reached);
+    drop(reached);
+    settled
 }
 
 // A case: the ranges of the container and of the pool, the first byte of the pool's bits, edits, and what they come to.
@@ -115,41 +121,40 @@ const CASES: &[Case] = table! {
     USED, &[(43, 2), (44, 1)], 0x03, &[], Err(OwnedTwice { block: 44 });
 };
 
+fn settled_after(alloc: Global, case: &Case) -> Result<u64, Stop<ReachFault>> {
+    let (owners, pool_owners, pool, edits, _) = *case;
+    let mut src = MemSource::new(image(alloc, edits)?, Vec::new(alloc));
+    settled(alloc, &mut src, (owners, pool_owners, pool))
+}
+
 #[test]
-fn blocks_settle(rt: HostRuntime) -> Result<(), Fail> {
-    let alloc = rt.alloc();
-    for case in CASES {
-        let (owners, pool_owners, pool_bits, edits, want) = *case;
-        let image = image(alloc, 4096, edits)?;
-        let found = settled(
-            alloc,
-            image,
-            Vec::new(alloc),
-            owners,
-            pool_owners,
-            pool_bits,
-        )?;
-        assert!(rt; found == want.map_err(Stop::Found));
+fn blocks_settle(rt: HostRuntime) {
+    for (i, case) in CASES.iter().enumerate() {
+        let found = settled_after(rt.alloc(), case);
+        assert!(rt; found == case.4.map_err(Stop::Found), "case {i}");
     }
-    Ok(())
+}
+
+fn settled_in_large(alloc: Global) -> Result<u64, Stop<ReachFault>> {
+    let mut src = MemSource::new(large(alloc)?, Vec::new(alloc));
+    settled(alloc, &mut src, (USED, POOL_USED, 0x03))
+}
+
+// The reads up to the space, after which the next one is that of a bitmap.
+fn reads(alloc: Global) -> Result<u64, NoMemory> {
+    let mut src = MemSource::new(image(alloc, &[])?, Vec::new(alloc));
+    drop(load(alloc, &mut src)?);
+    Ok(src.read_count())
+}
+
+fn settled_failing(alloc: Global) -> Result<u64, Stop<ReachFault>> {
+    let next = reads(alloc)?.saturating_add(1);
+    let mut src = MemSource::new(image(alloc, &[])?, vec![in alloc; next]?);
+    settled(alloc, &mut src, (USED, POOL_USED, 0x03))
 }
 
 #[test]
-fn large_blocks_settle(rt: HostRuntime) -> Result<(), Fail> {
-    let alloc = rt.alloc();
-    let image = image(alloc, 65536, &[])?;
-    let found = settled(alloc, image, Vec::new(alloc), USED, POOL_USED, 0x03)?;
-    assert!(rt; found == Ok(57));
-    Ok(())
-}
-
-#[test]
-fn a_read_that_fails_is_told(rt: HostRuntime) -> Result<(), Fail> {
-    let alloc = rt.alloc();
-    let mut src = MemSource::new(image(alloc, 4096, &[])?, Vec::new(alloc));
-    load(alloc, &mut src)?;
-    let next = vec![in alloc; src.read_count().saturating_add(1)]?;
-    let found = settled(alloc, image(alloc, 4096, &[])?, next, USED, POOL_USED, 0x03)?;
-    assert!(rt; found == Err(Stop::ReadFault));
-    Ok(())
+fn large_blocks_settle_and_a_read_that_fails_is_told(rt: HostRuntime) {
+    assert!(rt; settled_in_large(rt.alloc()) == Ok(57));
+    assert!(rt; settled_failing(rt.alloc()) == Err(Stop::ReadFault));
 }

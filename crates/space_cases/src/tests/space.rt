@@ -11,15 +11,13 @@ use apfs_layout::object::{OID, TYPE, XID};
 use apfs_layout::space_manager::{
     BLOCKS_PER_CHUNK, MAIN_CABS, MAIN_CHUNKS, MAIN_FREE, SECOND_BLOCKS, SECOND_QUEUE_TREE,
 };
-use blk_source::{BlockSource, MemSource};
-use img_make::{Sample, edit, made, make_with, sample, table, write};
+use blk_source::{BlockSource, MemSource, NoMemory};
+use img_make::{Sample, edit, make, make_with, sample, table, write};
 use nx_ring::newest;
 use obj_base::{Feature, HeadFault, Stop, Within};
 use space_map::SpaceFault::*;
 use space_map::{Chunk, Space, SpaceFault};
 use std::alloc::Global;
-use std::process::Abort;
-use std::test::Fail;
 
 // An edit: a block, a place in it, and the bytes that it gets.
 type Edit = (usize, usize, &'static [u8]);
@@ -48,7 +46,7 @@ const WITH_CAB: &[Edit] = &[
     (SPARE, CAB_ADDRESSES, &[43]),
 ];
 
-fn put(image: &mut [u8], edits: &[Edit], sealed: bool) -> Result<(), Fail> {
+fn put(image: &mut [u8], edits: &[Edit], sealed: bool) -> Result<(), NoMemory> {
     for (block, place, bytes) in edits.iter() {
         let done = if sealed {
             edit(image, 4096, *block, *place, bytes)
@@ -56,26 +54,27 @@ fn put(image: &mut [u8], edits: &[Edit], sealed: bool) -> Result<(), Fail> {
             write(image, 4096, *block, *place, bytes)
         };
         if !done {
-            return Err(Fail::from("no such place"));
+            return Err(NoMemory);
         }
     }
     Ok(())
 }
 
-fn edited(alloc: Global, first: &[Edit], then: &[Edit], sealed: bool) -> Result<Vec<u8>, Fail> {
-    let mut image = made(alloc, &sample(alloc, Sample::S)?)?;
+// The small container, changed by these edits; what is wrong with those is told as want of memory.
+fn edited(alloc: Global, first: &[Edit], then: &[Edit], sealed: bool) -> Result<Vec<u8>, NoMemory> {
+    let mut image = make(alloc, &sample(alloc, Sample::S)?)?;
     put(&mut image, first, true)?;
     put(&mut image, then, sealed)?;
     Ok(image)
 }
 
 // The small container with blocks of 65,536 bytes.
-fn large(alloc: Global) -> Result<Vec<u8>, Fail> {
+fn large(alloc: Global) -> Result<Vec<u8>, NoMemory> {
     let plan = sample(alloc, Sample::S)?;
     if !plan.valid() || plan.blocks > 256 {
-        return Err(Fail::from("the plan isn't valid"));
+        return Err(NoMemory);
     }
-    Ok(make_with(alloc, &plan, 65536)?)
+    make_with(alloc, &plan, 65536)
 }
 
 // The space of an image, by its newest checkpoint; a fault of the ring is no answer of these tests.
@@ -123,55 +122,102 @@ const CHUNK: Chunk = Chunk {
     bitmap: 44,
 };
 
-fn assert_small(rt: &impl Abort, alloc: Global, image: Vec<u8>, cabs: &[u64]) {
-    let mut src = MemSource::new(image, Vec::new(alloc));
-    let Ok(space) = load(alloc, &mut src) else {
-        panic!(rt; "it isn't loaded");
-    };
-    assert!(rt;
-        (space.site().blocks, space.free()) == (256, 199)
-            && (space.pool(), space.pool_ring()) == ((43, 8), (27, 16))
-            && space.cabs() == cabs
-            && space.cibs() == [43].as_slice()
-            && space.chunks() == [CHUNK].as_slice()
-            && &space.manager()[TYPE..TYPE + 4] == [5, 0, 0, 0x80].as_slice()
-    );
+const CHUNKS: &[Chunk] = &[CHUNK];
+
+const CIBS: &[u64] = &[43];
+
+const MANAGER_TYPE: Option<&[u8]> = Some(&[5, 0, 0, 0x80]);
+
+fn is_small(space: &Space, cabs: &[u64]) -> bool {
+    (
+        space.site().blocks,
+        space.free(),
+        space.pool(),
+        space.pool_ring(),
+    ) == (256, 199, (43, 8), (27, 16))
+        && space.cabs() == cabs
+        && space.cibs() == CIBS
+        && space.chunks() == CHUNKS
+        && space.manager().get(TYPE..TYPE + 4) == MANAGER_TYPE
+}
+
+fn has_small(alloc: Global, image: Vec<u8>, cabs: &[u64]) -> Result<bool, Stop<SpaceFault>> {
+    let space = load(alloc, &mut MemSource::new(image, Vec::new(alloc)))?;
+    let is_small = is_small(&space, cabs);
+    drop(space);
+    Ok(is_small)
+}
+
+fn has_small_after(alloc: Global, edits: &[Edit], cabs: &[u64]) -> Result<bool, Stop<SpaceFault>> {
+    has_small(alloc, edited(alloc, edits, &[], true)?, cabs)
+}
+
+fn has_small_in_large(alloc: Global) -> Result<bool, Stop<SpaceFault>> {
+    has_small(alloc, large(alloc)?, &[])
 }
 
 // Of a chunk's number of blocks the low 20 bits count.
 const HIGH_BITS: &[Edit] = &[(CIB, CIB_ENTRIES + CHUNK_BLOCKS + 3, &[0xf0])];
 
 #[test]
-fn the_small_container(rt: HostRuntime) -> Result<(), Fail> {
+fn the_small_container(rt: HostRuntime) {
     let alloc = rt.alloc();
-    assert_small(&rt, alloc, edited(alloc, &[], &[], true)?, &[]);
-    assert_small(&rt, alloc, edited(alloc, WITH_CAB, &[], true)?, &[45]);
-    assert_small(&rt, alloc, edited(alloc, HIGH_BITS, &[], true)?, &[]);
-    assert_small(&rt, alloc, large(alloc)?, &[]);
-    Ok(())
+    assert!(rt;
+        has_small_after(alloc, &[], &[]) == Ok(true)
+            && has_small_after(alloc, WITH_CAB, &[45]) == Ok(true)
+            && has_small_after(alloc, HIGH_BITS, &[]) == Ok(true)
+            && has_small_in_large(alloc) == Ok(true)
+    );
 }
-
-// A block, and whether it is marked.
-const MARKS: [(u64, bool); 4] = [(0, true), (56, true), (57, false), (255, false)];
 
 // The chunk has no bitmap.
 const NO_BITMAP: &[Edit] = &[(CIB, CIB_ENTRIES + CHUNK_BITMAP, &[0])];
 
+// A bitmap may stand anywhere in the pool.
+const MOVED: &[Edit] = &[(CIB, CIB_ENTRIES + CHUNK_BITMAP, &[50])];
+
+// Edits, a block, and whether it is marked.
+const MARKS: &[(&[Edit], u64, bool)] = table! {
+    &[], 0, true;
+    &[], 56, true;
+    &[], 57, false;
+    &[], 255, false;
+    NO_BITMAP, 0, false;
+    MOVED, 56, false;
+};
+
+// Whether a block is marked after these edits, where the read of a number fails, if any does.
+fn marked_after(alloc: Global, edits: &[Edit], fails: u64, block: u64) -> Option<bool> {
+    let image = edited(alloc, edits, &[], true).ok()?;
+    marked(alloc, image, vec![in alloc; fails].ok()?, block)
+}
+
 #[test]
-fn marks(rt: HostRuntime) -> Result<(), Fail> {
-    let alloc = rt.alloc();
-    for (block, mark) in MARKS {
-        let image = edited(alloc, &[], &[], true)?;
-        let answer = marked(alloc, image, Vec::new(alloc), block);
-        assert!(rt; answer == Some(mark), "{block}");
+fn marks(rt: HostRuntime) {
+    for (i, (edits, block, mark)) in MARKS.iter().enumerate() {
+        assert!(rt;
+            marked_after(rt.alloc(), edits, 0, *block) == Some(*mark),
+            "row {i}"
+        );
     }
-    let image = edited(alloc, NO_BITMAP, &[], true)?;
-    assert!(rt;
-        ones(alloc, edited(alloc, &[], &[], true)?, 0) == Some(57)
-            && ones(alloc, edited(alloc, NO_BITMAP, &[], true)?, 0) == Some(0)
-            && marked(alloc, image, Vec::new(alloc), 0) == Some(false)
-    );
-    Ok(())
+}
+
+fn ones_after(alloc: Global, edits: &[Edit]) -> Option<u32> {
+    ones(alloc, edited(alloc, edits, &[], true).ok()?, 0)
+}
+
+// The free blocks of the space after edits of which the last are sealed or not.
+fn free_after(
+    alloc: Global,
+    first: &[Edit],
+    then: &[Edit],
+    sealed: bool,
+) -> Result<u64, Stop<SpaceFault>> {
+    let image = edited(alloc, first, then, sealed)?;
+    let space = load(alloc, &mut MemSource::new(image, Vec::new(alloc)))?;
+    let free = space.free();
+    drop(space);
+    Ok(free)
 }
 
 // A chunk's free count isn't tested against its bitmap.
@@ -180,26 +226,12 @@ const COUNTS: &[Edit] = &[
     (CIB, CIB_ENTRIES + CHUNK_FREE, &[198]),
 ];
 
-// A bitmap may stand anywhere in the pool.
-const MOVED: &[Edit] = &[(CIB, CIB_ENTRIES + CHUNK_BITMAP, &[50])];
-
 #[test]
-fn near_misses(rt: HostRuntime) -> Result<(), Fail> {
+fn bits_of_a_chunk_and_a_near_miss(rt: HostRuntime) {
     let alloc = rt.alloc();
-    let counted = edited(alloc, COUNTS, &[], true)?;
-    let mut src = MemSource::new(counted, Vec::new(alloc));
-    assert!(rt; load(alloc, &mut src).is_ok_and(|space| space.free() == 198));
-    let moved = edited(alloc, MOVED, &[], true)?;
-    assert!(rt; marked(alloc, moved, Vec::new(alloc), 56) == Some(false));
-    Ok(())
-}
-
-fn assert_stop(rt: &impl Abort, alloc: Global, image: Vec<u8>, stop: Stop<SpaceFault>) {
-    let mut src = MemSource::new(image, Vec::new(alloc));
-    match load(alloc, &mut src) {
-        Ok(_) => panic!(rt; "it is loaded"),
-        Err(other) => assert!(rt; other == stop),
-    }
+    assert!(rt; ones_after(alloc, &[]) == Some(57));
+    assert!(rt; ones_after(alloc, NO_BITMAP) == Some(0));
+    assert!(rt; free_after(alloc, COUNTS, &[], true) == Ok(198));
 }
 
 // An edit, and the fault.
@@ -220,80 +252,70 @@ const FAULTS: &[(Edit, SpaceFault)] = table! {
 };
 
 #[test]
-fn what_stops_it(rt: HostRuntime) -> Result<(), Fail> {
-    let alloc = rt.alloc();
+fn what_stops_it(rt: HostRuntime) {
     for (change, fault) in FAULTS {
-        let image = edited(alloc, &[*change], &[], true)?;
-        assert_stop(&rt, alloc, image, Stop::Found(*fault));
+        let stop = free_after(rt.alloc(), &[*change], &[], true);
+        assert!(rt; stop == Err(Stop::Found(*fault)));
     }
-    Ok(())
 }
 
-// A byte of the chunk-info block is changed, and its sum isn't.
-const TORN: &[Edit] = &[(CIB, 4095, &[1])];
-
-const UNSOUND: SpaceFault = Unsound {
+const UNSOUND: Result<u64, Stop<SpaceFault>> = Err(Stop::Found(Unsound {
     block: 43,
     why: HeadFault::BadSum,
-};
+}));
 
-#[test]
-fn a_torn_block_stops_it(rt: HostRuntime) -> Result<(), Fail> {
-    let alloc = rt.alloc();
-    let torn = edited(alloc, &[], TORN, false)?;
-    assert_stop(&rt, alloc, torn, Stop::Found(UNSOUND));
-    Ok(())
-}
+const NUMBERED: Result<u64, Stop<SpaceFault>> = Err(Stop::Found(Cab { index: 0 }));
 
-// The address block gets another index.
-const NUMBERED: &[Edit] = &[(SPARE, CAB_INDEX, &[1])];
-
-#[test]
-fn an_address_block_of_another_index_stops_it(rt: HostRuntime) -> Result<(), Fail> {
-    let alloc = rt.alloc();
-    let numbered = edited(alloc, WITH_CAB, NUMBERED, true)?;
-    assert_stop(&rt, alloc, numbered, Stop::Found(Cab { index: 0 }));
-    Ok(())
-}
-
-// Edits of which each gives the container a second device.
-const SECOND_DEVICE: [Edit; 2] = [
-    (MANAGER, SECOND_BLOCKS, &[1]),
-    (MANAGER, SECOND_QUEUE_TREE, &[1]),
-];
-
-const FUSION: Stop<SpaceFault> = Stop::Unsupported {
+const FUSION: Result<u64, Stop<SpaceFault>> = Err(Stop::Unsupported {
     feature: Feature::Fusion,
     block: 9,
+});
+
+// Edits, and others after them, whether these are sealed, and what they come to.
+type After = (
+    &'static [Edit],
+    &'static [Edit],
+    bool,
+    Result<u64, Stop<SpaceFault>>,
+);
+
+const AFTER: &[After] = table! {
+    // A byte of the chunk-info block is changed, and its sum isn't.
+    &[], &[(CIB, 4095, &[1])], false, UNSOUND;
+    // The address block gets another index.
+    WITH_CAB, &[(SPARE, CAB_INDEX, &[1])], true, NUMBERED;
+    // Each gives the container a second device.
+    &[], &[(MANAGER, SECOND_BLOCKS, &[1])], true, FUSION;
+    &[], &[(MANAGER, SECOND_QUEUE_TREE, &[1])], true, FUSION;
 };
 
 #[test]
-fn a_second_device_is_refused(rt: HostRuntime) -> Result<(), Fail> {
-    let alloc = rt.alloc();
-    for change in SECOND_DEVICE {
-        let image = edited(alloc, &[change], &[], true)?;
-        assert_stop(&rt, alloc, image, FUSION);
+fn a_torn_block_another_index_and_a_second_device_stop_it(rt: HostRuntime) {
+    for (i, (first, then, sealed, stop)) in AFTER.iter().enumerate() {
+        assert!(rt;
+            free_after(rt.alloc(), first, then, *sealed) == *stop,
+            "row {i}"
+        );
     }
-    Ok(())
 }
 
-// How many reads after the last one fails, and whether block 0 is marked.
-const LATER: [(u64, Option<bool>); 2] = [(1, None), (2, Some(true))];
+// The reads of a load, where the read of a number fails, if any does.
+fn reads_with(alloc: Global, fails: u64) -> Result<u64, Stop<SpaceFault>> {
+    let image = edited(alloc, &[], &[], true)?;
+    let mut src = MemSource::new(image, vec![in alloc; fails]?);
+    drop(load(alloc, &mut src)?);
+    Ok(src.read_count())
+}
 
-// The last read is the one of the chunk-info block.
+// The last read is the one of the chunk-info block. Where the next one fails it isn't known whether block 0 is marked, and where the one
+// after that does it is.
 #[test]
-fn a_failed_read_stops_it(rt: HostRuntime) -> Result<(), Fail> {
+fn a_failed_read_stops_it(rt: HostRuntime) {
     let alloc = rt.alloc();
-    let mut src = MemSource::new(edited(alloc, &[], &[], true)?, Vec::new(alloc));
-    assert!(rt; load(alloc, &mut src).is_ok());
-    let last = src.read_count();
-    let fails = vec![in alloc; last]?;
-    let mut src = MemSource::new(edited(alloc, &[], &[], true)?, fails);
-    assert!(rt; matches!(load(alloc, &mut src), Err(Stop::ReadFault)));
-    for (later, answer) in LATER {
-        let fails = vec![in alloc; last.saturating_add(later)]?;
-        let image = edited(alloc, &[], &[], true)?;
-        assert!(rt; marked(alloc, image, fails, 0) == answer, "{later}");
-    }
-    Ok(())
+    let last = reads_with(alloc, 0).ok().expect(&rt, "it isn't loaded");
+    assert!(rt;
+        reads_with(alloc, last) == Err(Stop::ReadFault)
+            && marked_after(alloc, &[], last.saturating_add(1), 0) == None
+            && marked_after(alloc, &[], last.saturating_add(2), 0) == Some(true)
+    );
 }

@@ -9,8 +9,7 @@ use img_edit::node::Tree;
 use img_make::table;
 use obj_base::{Feature, HeadFault, Site, Stop};
 use omap_map::{At, Omap, OmapFault, OmapRecord, Place};
-use std::alloc::Global;
-use std::process::Abort;
+use std::alloc::{AllocError, Global};
 
 const SITE: Site = Site {
     block_size: 4096,
@@ -52,23 +51,34 @@ fn load(alloc: Global, image: Vec<u8>, fails: u64) -> Result<Omap, Stop<OmapFaul
     Omap::load(alloc, &mut src, 1, &SITE)
 }
 
-fn place(block: u64, xid: u64) -> Option<Place> {
-    Some(Place {
-        block,
-        xid,
-        flags: 0,
-        size: 4096,
-    })
+// A block that is said to be of a transaction.
+macro_rules! place {
+    ($block:expr, $xid:expr) => {
+        Some(Place {
+            block: $block,
+            xid: $xid,
+            flags: 0,
+            size: 4096,
+        })
+    };
 }
 
-fn assert_five(rt: &impl Abort, omap: &Omap) {
-    assert!(rt;
-        omap.resolve(7, 4) == place(5, 3)
-            && omap.resolve(7, 5) == None
-            && omap.resolve(7, 2) == None
-            && omap.resolve(8, 9) == None
-            && omap.resolve(9, 9) == place(7, 2)
-    );
+// An object, a transaction, and where the object is.
+const PLACES: &[(u64, u64, Option<Place>)] = table! {
+    7, 4, place!(5, 3);
+    7, 5, None;
+    7, 2, None;
+    8, 9, None;
+    9, 9, place!(7, 2);
+};
+
+fn has_places(omap: &Omap) -> bool {
+    for (oid, xid, place) in PLACES {
+        if omap.resolve(*oid, *xid) != *place {
+            return false;
+        }
+    }
+    true
 }
 
 // The record of (9, 2).
@@ -90,20 +100,23 @@ fn block_of_nine(omap: &Omap, blocks: u64) -> Option<u64> {
     at.block(9)
 }
 
-#[test]
-fn a_map_resolves_by_oid_and_transaction(rt: HostRuntime) {
-    let alloc = rt.alloc();
-    let image = map_image(alloc, MAP, &[WHOLE]).ok().expect(&rt, "memory");
-    let omap = load(alloc, image, 0).ok().expect(&rt, "it isn't whole");
-    assert_five(&rt, &omap);
-    assert!(rt;
-        omap.records().last() == Some(&LAST)
-            && omap.record(9, 9) == Some(LAST)
-            && omap.records().len() == 3
-            && block_of_nine(&omap, 8) == Some(7)
-            && block_of_nine(&omap, 7) == None
-    );
+const LAST_OF_ALL: Option<&OmapRecord> = Some(&LAST);
+
+fn has_nine(omap: &Omap) -> bool {
+    omap.records().last() == LAST_OF_ALL
+        && omap.record(9, 9) == Some(LAST)
+        && (
+            omap.records().len(),
+            block_of_nine(omap, 8),
+            block_of_nine(omap, 7),
+        ) == (3, Some(7), None)
+}
+
+fn is_resolved(alloc: Global) -> Result<bool, Stop<OmapFault>> {
+    let omap = load(alloc, map_image(alloc, MAP, &[WHOLE])?, 0)?;
+    let is_right = has_places(&omap) && has_nine(&omap);
     drop(omap);
+    Ok(is_right)
 }
 
 // A map with two snapshots, whose tree is in block 5.
@@ -122,40 +135,46 @@ const SNAPSHOTS: Node = Node {
 };
 
 // A root of records, its two children, and the snapshots.
-const TWO_LEVELS: [Node; 4] = [
+const TWO_LEVELS: &[Node] = &[
     records!(1, Some((3, 3)), &[(7, 3, 0, 3), (9, 2, 0, 4)]),
     records!(0, None, &[(7, 3, 0, 5), (7, 5, 1, 6)]),
     records!(0, None, &[(9, 2, 0, 7)]),
     SNAPSHOTS,
 ];
 
-#[test]
-fn a_map_of_two_levels_with_snapshots(rt: HostRuntime) {
-    let alloc = rt.alloc();
-    let image = map_image(alloc, WITH_SNAPSHOTS, &TWO_LEVELS)
-        .ok()
-        .expect(&rt, "memory");
-    let omap = load(alloc, image, 0).ok().expect(&rt, "it isn't whole");
-    assert_five(&rt, &omap);
-    assert!(rt;
-        omap.snap_count() == 2
-            && omap.snapshots() == [(3, 0), (5, 2)].as_slice()
-            && omap.block() == 1
-            && omap.tree() == 2
-            && omap.snap_tree() == 5
-            && omap.steps().len() == 2
-            && omap.snap_steps().len() == 0
-    );
+const SNAPSHOT_STATES: &[(u64, u32)] = &[(3, 0), (5, 2)];
+
+fn has_snapshots(omap: &Omap) -> bool {
+    (
+        omap.snap_count(),
+        omap.block(),
+        omap.tree(),
+        omap.snap_tree(),
+    ) == (2, 1, 2, 5)
+        && (omap.steps().len(), omap.snap_steps().len()) == (2, 0)
+        && omap.snapshots() == SNAPSHOT_STATES
+}
+
+fn is_of_two_levels(alloc: Global) -> Result<bool, Stop<OmapFault>> {
+    let omap = load(alloc, map_image(alloc, WITH_SNAPSHOTS, TWO_LEVELS)?, 0)?;
+    let is_right = has_places(&omap) && has_snapshots(&omap);
     drop(omap);
+    Ok(is_right)
+}
+
+#[test]
+fn maps_of_one_level_and_of_two_with_snapshots(rt: HostRuntime) {
+    assert!(rt; is_resolved(rt.alloc()) == Ok(true));
+    assert!(rt; is_of_two_levels(rt.alloc()) == Ok(true));
 }
 
 // A fault of the tree with this root.
 macro_rules! tree {
     ($root:expr, $why:expr) => {
-        Stop::Found(OmapFault::Tree {
+        Some(Stop::Found(OmapFault::Tree {
             root: $root,
             why: $why,
-        })
+        }))
     };
 }
 
@@ -170,22 +189,27 @@ const SNAPPED: Map = Map {
 };
 
 // A map, the nodes after it, the number of the read that fails, if any does, and what stops it.
-const STOPS: &[(Map, &[Node], u64, Stop<OmapFault>)] = table! {
+type Stopped = (Map, &'static [Node], u64, Option<Stop<OmapFault>>);
+
+const STOPS: &[Stopped] = table! {
     NO_TREE, &[WHOLE], 0, tree!(0, WalkFault::Unnamed { oid: 0 });
-    REVERTING, &[], 0, Stop::Unsupported { feature: Feature::Revert, block: 1 };
+    REVERTING, &[], 0, Some(Stop::Unsupported { feature: Feature::Revert, block: 1 });
     MAP, &[records!(0, Some((2, 1)), THREE)], 0, tree!(2, WalkFault::Counts);
     MAP, &[records!(0, Some((2, 1)), &[(9, 2, 0, 7), (7, 3, 0, 5)])], 0, tree!(2, WalkFault::Order { item: 1 });
     MAP, &[records!(0, Some((2, 1)), &[(7, 3, 0, 5), (7, 3, 0, 6)])], 0, tree!(2, WalkFault::Order { item: 1 });
     SNAPPED, &[WHOLE], 0, tree!(8, WalkFault::Unnamed { oid: 8 });
-    MAP, &[WHOLE], 2, Stop::ReadFault;
+    MAP, &[WHOLE], 2, Some(Stop::ReadFault);
 };
+
+fn is_stopped(alloc: Global, row: &Stopped) -> Result<bool, AllocError> {
+    let image = map_image(alloc, row.0, row.1)?;
+    Ok(load(alloc, image, row.2).err() == row.3)
+}
 
 #[test]
 fn what_stops_a_map(rt: HostRuntime) {
-    let alloc = rt.alloc();
-    for (map, nodes, fails, stop) in STOPS {
-        let image = map_image(alloc, *map, nodes).ok().expect(&rt, "memory");
-        assert!(rt; load(alloc, image, *fails).err() == Some(*stop));
+    for (i, row) in STOPS.iter().enumerate() {
+        assert!(rt; is_stopped(rt.alloc(), row) == Ok(true), "row {i}");
     }
 }
 

@@ -2,7 +2,7 @@
 ghost use Rattle.std.specs.Prelude.{◌≡◌, ◌≤◌, ◌-◌, ◌*◌, OnOk, pos};
 ghost use Rattle.ext_ref.specs.Left.{AreShort, AreShortExtents};
 
-use blk_source::{BlockSource, MemSource};
+use blk_source::{BlockSource, MemSource, NoMemory};
 use bt_cursor::WalkFault;
 use ext_ref::{
     Cover, ExtScan, ExtStop, NewRange, covered, new_ranges, references, scan, thin, unreached,
@@ -11,7 +11,6 @@ use fs_record::FileExt;
 use img_make::{Sample, make, sample, table};
 use obj_base::{Site, Stop};
 use std::alloc::{AllocError, Global};
-use std::test::Fail;
 
 const TOP: u64 = u64::MAX;
 
@@ -29,25 +28,17 @@ macro_rules! ranges {
 }
 
 // The container in which two files share block 57.
-fn shared(alloc: Global, fails: &[u64]) -> Result<MemSource, Fail> {
+fn shared(alloc: Global, fails: &[u64]) -> Result<MemSource, NoMemory> {
     let plan = sample(alloc, Sample::C)?;
-    let src = MemSource::new(make(alloc, &plan)?, fails.to_vec(alloc)?);
-    if src.size() < 4096 * 256 {
-        return Err(Fail::from("the image is too short"));
-    }
-    Ok(src)
+    Ok(MemSource::new(make(alloc, &plan)?, fails.to_vec(alloc)?))
 }
 
-fn scanned(
-    alloc: Global,
-    root: u64,
-    fails: &[u64],
-) -> Result<Result<ExtScan, Stop<ExtStop>>, Fail> {
+fn scanned(alloc: Global, root: u64, fails: &[u64]) -> Result<ExtScan, Stop<ExtStop>> {
     let mut src = shared(alloc, fails)?;
     if src.size() < 4096 * 256 {
-        return Err(Fail::from("the image is too short"));
+        return Err(Stop::NoMemory);
     }
-    Ok(scan(alloc, &mut src, root, &SITE))
+    scan(alloc, &mut src, root, &SITE)
 }
 
 fn range(first: u64, length: u64) -> NewRange
@@ -67,41 +58,32 @@ const SHARED: NewRange = NewRange {
     count: 2,
 };
 
-#[test]
-fn a_shared_block_is_one_range(rt: HostRuntime) -> Result<(), Fail> {
-    let alloc = rt.alloc();
-    let Ok(scan) = scanned(alloc, 55, &[])? else {
-        panic!(rt; "the tree isn't right");
-    };
-    assert!(rt; scan.steps.len() == 0 && scan.ranges.as_slice() == [SHARED].as_slice());
-    Ok(())
+const SHARED_ALONE: &[NewRange] = &[SHARED];
+
+fn has_shared_alone(alloc: Global) -> Result<bool, Stop<ExtStop>> {
+    let scan = scanned(alloc, 55, &[])?;
+    Ok(scan.steps.len() == 0 && scan.ranges.as_slice() == SHARED_ALONE)
 }
 
-#[test]
-fn no_tree_has_no_ranges(rt: HostRuntime) -> Result<(), Fail> {
-    let alloc = rt.alloc();
+// How many ranges there are without a tree.
+fn ranges_of_none(alloc: Global) -> Result<usize, Stop<ExtStop>> {
     let mut src = shared(alloc, &[1])?;
     if src.size() < 4096 * 256 {
-        return Err(Fail::from("the image is too short"));
+        return Err(Stop::NoMemory);
     }
-    let ranges = new_ranges(alloc, &mut src, 0, &SITE)
-        .ok()
-        .expect(&rt, "the tree isn't right");
-    assert!(rt; ranges.is_empty());
-    Ok(())
+    Ok(new_ranges(alloc, &mut src, 0, &SITE)?.len())
 }
 
 // The container has no block 256.
 const UNNAMED: Stop<ExtStop> = Stop::Found(ExtStop::Walk(WalkFault::Unnamed { oid: 256 }));
 
 #[test]
-fn what_stops_a_scan(rt: HostRuntime) -> Result<(), Fail> {
+fn a_shared_block_is_one_range_and_what_stops_a_scan(rt: HostRuntime) {
     let alloc = rt.alloc();
-    assert!(rt;
-        scanned(alloc, 256, &[])?.err() == Some(UNNAMED)
-            && scanned(alloc, 55, &[1])?.err() == Some(Stop::ReadFault)
-    );
-    Ok(())
+    assert!(rt; has_shared_alone(alloc) == Ok(true));
+    assert!(rt; ranges_of_none(alloc) == Ok(0));
+    assert!(rt; scanned(alloc, 256, &[]).err() == Some(UNNAMED));
+    assert!(rt; scanned(alloc, 55, &[1]).err() == Some(Stop::ReadFault));
 }
 
 // Ranges that meet, overlap or hold one another, one without a block, and one that passes the greatest number.
@@ -193,7 +175,13 @@ const TWO: &[NewRange] = ranges! {
 };
 
 // Ranges, extents, and how many streams touch each range.
-const TOUCHED: &[(&[NewRange], &[(u64, FileExt)], &[u64])] = table! {
+type Touched = (
+    &'static [NewRange],
+    &'static [(u64, FileExt)],
+    &'static [u64],
+);
+
+const TOUCHED: &[Touched] = table! {
     REFERRED, REFERRING, &[1, 2, 2, 0, 0, 4];
     APART, FILES, APART_COUNTS;
     OVERLAPPING, FILES, OVERLAPPING_COUNTS;
@@ -202,13 +190,14 @@ const TOUCHED: &[(&[NewRange], &[(u64, FileExt)], &[u64])] = table! {
     TWO, &[], &[0, 0];
 };
 
+fn is_counted(alloc: Global, row: &Touched) -> Result<bool, NoMemory> {
+    Ok(references(alloc, row.0, row.1, 4096)?.as_slice() == row.2)
+}
+
 #[test]
 fn streams_are_counted_once_a_range(rt: HostRuntime) {
-    for (i, (ranges, extents, wanted)) in TOUCHED.iter().enumerate() {
-        let counts = references(rt.alloc(), ranges, extents, 4096)
-            .ok()
-            .expect(&rt, "memory");
-        assert!(rt; counts.as_slice() == *wanted, "row {i}");
+    for (i, row) in TOUCHED.iter().enumerate() {
+        assert!(rt; is_counted(rt.alloc(), row) == Ok(true), "row {i}");
     }
 }
 
@@ -310,14 +299,18 @@ fn put_extents(extents: &mut Vec<(u64, FileExt)>) -> Result<(), AllocError>
     Ok(())
 }
 
-#[test]
-fn runs_that_no_extent_reaches(rt: HostRuntime) -> Result<(), Fail> {
-    let alloc = rt.alloc();
+// The first block of each run, and the number of its blocks.
+const RUNS: &[(u64, u64)] = &[(10, 1), (13, 3), (17, 1), (30, 1)];
+
+fn are_unreached(alloc: Global) -> Result<bool, NoMemory> {
     let mut ranges = Vec::new(alloc);
     put_ranges(&mut ranges)?;
     let mut extents = Vec::new(alloc);
     put_extents(&mut extents)?;
-    let runs = unreached(alloc, &ranges, &extents, 4096)?;
-    assert!(rt; runs.as_slice() == [(10, 1), (13, 3), (17, 1), (30, 1)].as_slice());
-    Ok(())
+    Ok(unreached(alloc, &ranges, &extents, 4096)?.as_slice() == RUNS)
+}
+
+#[test]
+fn runs_that_no_extent_reaches(rt: HostRuntime) {
+    assert!(rt; are_unreached(rt.alloc()) == Ok(true));
 }

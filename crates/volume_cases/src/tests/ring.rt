@@ -4,7 +4,6 @@ use blk_source::MemSource;
 use nx_ring::{Checkpoint, RingFault, RingLine, newest, ring};
 use obj_base::{Feature, Stop, sum64};
 use std::alloc::{AllocError, Global};
-use std::process::Abort;
 
 // The types of a superblock, of a map, and of a space manager.
 const SUPERBLOCK: u32 = 0x8000_0001;
@@ -107,21 +106,31 @@ fn object(alloc: Global, size: usize, oid: u64, xid: u64) -> Result<Block, Alloc
     Ok(block)
 }
 
-// How the second checkpoint is broken.
-#[derive(Clone, Copy, PartialEq, Eq)]
-enum Broken {
-    Nothing,
-    End,
-    MapSum,
-    Size,
-    Oid,
-    Place,
-    Twice,
-    Shared,
-    Xid,
+// What the second checkpoint has: by how much the size of its object of two blocks is too small, the oid and the block of its other
+// object, the oid and the transaction that stand in that block, the index of its first descriptor, whether the object of two blocks has
+// another one in its second half, and whether its first map is torn.
+#[derive(Clone, Copy)]
+struct Second {
+    less: u32,
+    oid: u64,
+    paddr: u64,
+    there: u64,
+    xid: u64,
+    start: u32,
+    shared: bool,
+    torn: bool,
 }
 
-use Broken::*;
+const SOUND: Second = Second {
+    less: 0,
+    oid: 1025,
+    paddr: 11,
+    there: 1025,
+    xid: 2,
+    start: 2,
+    shared: false,
+    torn: false,
+};
 
 // An image in the making.
 #[derive(Drop)]
@@ -156,34 +165,21 @@ impl Image {
     }
 
     // A checkpoint of transaction 2, with two maps.
-    fn second(&mut self, alloc: Global, broken: Broken) -> Result<(), AllocError> {
+    fn second(&mut self, alloc: Global, parts: &Second) -> Result<(), AllocError> {
         let stored = self.size;
         let size = stored as usize;
-        let long = stored.saturating_mul(2);
-        let long = if broken == Size {
-            long.saturating_sub(1)
-        } else {
-            long
-        };
-        let paddr = match broken {
-            Place => 13,
-            Shared => 9,
-            _ => 11,
-        };
-        let oid = if broken == Twice { 1024 } else { 1025 };
-        let start = if broken == End { 3 } else { 2 };
+        let long = stored.saturating_mul(2).saturating_sub(parts.less);
         self.put_block(3, map(alloc, size, 3, 2, (long, 1024, 12))?);
-        self.put_block(4, map(alloc, size, 4, 2, (stored, oid, paddr))?);
-        self.put_block(5, superblock(alloc, size, stored, 0, (2, start, 3))?);
-        let there = if broken == Oid { 7 } else { oid };
-        let xid = if broken == Xid { 3 } else { 2 };
-        self.put_block(11, object(alloc, size, there, xid)?);
-        self.put_halves(long_object(alloc, size, broken)?);
+        let mapping = (stored, parts.oid, parts.paddr);
+        self.put_block(4, map(alloc, size, 4, 2, mapping)?);
+        self.put_block(5, superblock(alloc, size, stored, 0, (2, parts.start, 3))?);
+        self.put_block(11, object(alloc, size, parts.there, parts.xid)?);
+        self.put_halves(long_object(alloc, size, parts.shared)?);
         Ok(())
     }
 
     // Eight candidates without maps, of these transactions; those of `broken` don't end at their superblocks.
-    fn put_bare(&mut self, alloc: Global, xids: [u64; 8], broken: u64) -> Result<(), AllocError> {
+    fn put_bare(&mut self, alloc: Global, xids: &[u64], broken: u64) -> Result<(), AllocError> {
         self.put_block(0, zero(alloc, 4096, 4096, 0)?);
         for index in 0u32..8 {
             let xid = xids.get(index as usize).copied().unwrap_or(0);
@@ -220,9 +216,9 @@ fn put_second_half(
     alloc: Global,
     object_of_two: &mut Block,
     size: usize,
-    broken: Broken,
+    shared: bool,
 ) -> Result<(), AllocError> {
-    if broken == Shared {
+    if shared {
         let shared = object(alloc, size, 1025, 2)?;
         put(&mut object_of_two.bytes, size, &shared.bytes);
     } else {
@@ -231,43 +227,42 @@ fn put_second_half(
     Ok(())
 }
 
-fn long_object(alloc: Global, size: usize, broken: Broken) -> Result<Block, AllocError> {
+fn long_object(alloc: Global, size: usize, shared: bool) -> Result<Block, AllocError> {
     let mut both = Block::new(alloc, size.saturating_mul(2))?;
-    put_second_half(alloc, &mut both, size, broken)?;
+    put_second_half(alloc, &mut both, size, shared)?;
     both.seal(1024, 2, MANAGER);
     Ok(both)
 }
 
-fn rings(alloc: Global, size: u32, broken: Broken) -> Result<Image, AllocError> {
+fn rings(alloc: Global, size: u32, second: &Second) -> Result<Image, AllocError> {
     let bytes = vec![in alloc; 0u8; (size as usize).saturating_mul(32)]?;
     let mut image = Image { bytes, size };
     image.first(alloc)?;
-    image.second(alloc, broken)?;
-    if broken == MapSum {
+    image.second(alloc, second)?;
+    if second.torn {
         image.put(3, b"x");
     }
     Ok(image)
 }
 
 // A source of a ring, and the number of the read that fails, if any does.
-fn ring_source(rt: &impl Abort, alloc: Global, size: u32, broken: Broken, fails: u64) -> MemSource {
-    let image = rings(alloc, size, broken).ok().expect(rt, "memory");
-    let fails = vec![in alloc; fails].ok().expect(rt, "memory");
-    MemSource::new(image.bytes, fails)
+fn ring_source(
+    alloc: Global,
+    size: u32,
+    second: &Second,
+    fails: u64,
+) -> Result<MemSource, AllocError> {
+    let image = rings(alloc, size, second)?;
+    Ok(MemSource::new(image.bytes, vec![in alloc; fails]?))
 }
 
 // Each candidate's index, block, transaction, and the index and the number of its descriptors.
-const CANDIDATES: [(u32, u64, u64, u32, u32); 2] = [(1, 2, 1, 0, 2), (4, 5, 2, 2, 3)];
+const CANDIDATES: &[(u32, u64, u64, u32, u32)] = &[(1, 2, 1, 0, 2), (4, 5, 2, 2, 3)];
 
 // Whether these are the two candidates.
 fn are_candidates(lines: &[RingLine]) -> bool {
-    for (at, (index, block, xid, desc_index, desc_len)) in lines.iter().zip(&CANDIDATES) {
-        if at.index != *index
-            || at.block != *block
-            || at.xid != *xid
-            || at.desc_index != *desc_index
-            || at.desc_len != *desc_len
-        {
+    for (at, wanted) in lines.iter().zip(CANDIDATES) {
+        if (at.index, at.block, at.xid, at.desc_index, at.desc_len) != *wanted {
             return false;
         }
     }
@@ -275,30 +270,33 @@ fn are_candidates(lines: &[RingLine]) -> bool {
 }
 
 // The bytes of a block, and the reads.
-const LIST_READS: [(u32, u64); 3] = [(4096, 9), (16384, 10), (65536, 10)];
+const LIST_READS: &[(u32, u64)] = &[(4096, 9), (16384, 10), (65536, 10)];
+
+// Whether the candidates of a ring are those two, and the reads.
+fn listed(alloc: Global, size: u32) -> Result<(bool, u64), Stop<RingFault>> {
+    let mut source = ring_source(alloc, size, &SOUND, 0)?;
+    let lines = ring(alloc, &mut source)?;
+    Ok((are_candidates(&lines), source.read_count()))
+}
 
 #[test]
 fn lists_candidates_in_the_fewest_reads(rt: HostRuntime) {
-    let alloc = rt.alloc();
     for (size, reads) in LIST_READS {
-        let mut source = ring_source(&rt, alloc, size, Nothing, 0);
-        let lines = ring(alloc, &mut source).ok().expect(&rt, "stopped");
-        assert!(rt;
-            are_candidates(&lines) && source.read_count() == reads,
-            "{size}"
-        );
+        assert!(rt; listed(rt.alloc(), *size) == Ok((true, *reads)), "{size}");
     }
 }
 
 // Whether this is the second checkpoint, of a ring with blocks of so many bytes.
 fn is_second(checkpoint: &Checkpoint, size: u32) -> bool {
-    checkpoint.xid() == 2
-        && checkpoint.block() == 5
-        && checkpoint.index() == 4
-        && checkpoint.maps() == 2
-        && checkpoint.mapped() == 2
+    let place = (checkpoint.xid(), checkpoint.block(), checkpoint.index());
+    let counts = (
+        checkpoint.maps(),
+        checkpoint.mapped(),
+        checkpoint.nx().block_count(),
+    );
+    place == (2, 5, 4)
+        && counts == (2, 2, 32)
         && checkpoint.skipped().is_empty()
-        && checkpoint.nx().block_count() == 32
         && checkpoint.site().block_size == size
 }
 
@@ -313,33 +311,90 @@ fn has_long_object(checkpoint: &Checkpoint, size: usize) -> bool {
 
 // The bytes of a block, and the reads: block 0, the 8 descriptors, 2 maps and 3 blocks of objects; then the superblock and
 // these 3 blocks again.
-const NEWEST_READS: [(u32, u64); 3] = [(4096, 18), (16384, 19), (65536, 19)];
+const NEWEST_READS: &[(u32, u64)] = &[(4096, 18), (16384, 19), (65536, 19)];
+
+// Whether the newest checkpoint of a ring is the second one.
+fn is_second_newest(
+    alloc: Global,
+    source: &mut MemSource,
+    size: u32,
+) -> Result<bool, Stop<RingFault>> {
+    let checkpoint = newest(alloc, source)?;
+    let second = is_second(&checkpoint, size) && has_long_object(&checkpoint, size as usize);
+    drop(checkpoint);
+    Ok(second)
+}
+
+fn taken(alloc: Global, size: u32) -> Result<(bool, u64), Stop<RingFault>> {
+    let mut source = ring_source(alloc, size, &SOUND, 0)?;
+    let second = is_second_newest(alloc, &mut source, size)?;
+    Ok((second, source.read_count()))
+}
 
 #[test]
 fn takes_the_newest_that_is_read_twice_and_the_older_not_at_all(rt: HostRuntime) {
-    let alloc = rt.alloc();
     for (size, reads) in NEWEST_READS {
-        let mut source = ring_source(&rt, alloc, size, Nothing, 0);
-        let checkpoint = newest(alloc, &mut source).ok().expect(&rt, "stopped");
-        assert!(rt;
-            is_second(&checkpoint, size)
-                && has_long_object(&checkpoint, size as usize)
-                && source.read_count() == reads,
-            "{size}"
-        );
+        assert!(rt; taken(rt.alloc(), *size) == Ok((true, *reads)), "{size}");
     }
 }
 
-// How the second checkpoint is broken, once in each way.
-const FLAWS: [Broken; 8] = [End, MapSum, Size, Oid, Place, Twice, Shared, Xid];
+// The index and the transaction of a checkpoint, and whether those that are skipped before it are those that were to be.
+type Found = (u32, u64, bool);
+
+// The newest checkpoint of a source.
+fn found(
+    alloc: Global,
+    source: &mut MemSource,
+    skipped: &[(u32, u64)],
+) -> Result<Found, Stop<RingFault>> {
+    let checkpoint = newest(alloc, source)?;
+    let found = (
+        checkpoint.index(),
+        checkpoint.xid(),
+        checkpoint.skipped() == skipped,
+    );
+    drop(checkpoint);
+    Ok(found)
+}
+
+// The second checkpoint broken in some way.
+macro_rules! but {
+    ($($field:ident: $value:expr),+) => {
+        Second { $($field: $value),+, ..SOUND }
+    };
+}
+
+// How the second checkpoint is broken, once in each way: it ends elsewhere, its map is torn, an object isn't of whole blocks, is another
+// one, lies outside the area, is mapped twice, shares a block, or is of another transaction.
+const FLAWS: &[Second] = &[
+    but!(start: 3),
+    but!(torn: true),
+    but!(less: 1),
+    but!(there: 7),
+    but!(paddr: 13),
+    but!(oid: 1024, there: 1024),
+    but!(paddr: 9, shared: true),
+    but!(xid: 3),
+];
+
+// What is found where the second checkpoint has this, or a read fails.
+fn found_with(
+    alloc: Global,
+    size: u32,
+    second: &Second,
+    fails: u64,
+) -> Result<Found, Stop<RingFault>> {
+    let mut source = ring_source(alloc, size, second, fails)?;
+    found(alloc, &mut source, &[(4, 2)])
+}
 
 #[test]
 fn takes_the_older_where_the_newer_is_broken(rt: HostRuntime) {
-    let alloc = rt.alloc();
-    for broken in FLAWS {
-        let mut source = ring_source(&rt, alloc, 4096, broken, 0);
-        let checkpoint = newest(alloc, &mut source).ok().expect(&rt, "stopped");
-        assert!(rt; checkpoint.xid() == 1 && checkpoint.skipped() == [(4u32, 2u64)].as_slice());
+    for (i, second) in FLAWS.iter().enumerate() {
+        assert!(rt;
+            found_with(rt.alloc(), 4096, second, 0) == Ok((1, 1, true)),
+            "flaw {i}"
+        );
     }
 }
 
@@ -359,7 +414,7 @@ const APART: Stop<RingFault> = Stop::Unsupported {
     block: 0,
 };
 
-const ZEROS: [Zero; 6] = [
+const ZEROS: &[Zero] = &[
     (16384, 0, 4095, WRONG),
     (16384, 0, 4096, WRONG),
     (12288, 0, WHOLE, WRONG),
@@ -370,72 +425,77 @@ const ZEROS: [Zero; 6] = [
 
 // A source of a ring with this block 0, of which so many bytes are kept.
 fn cut_ring(alloc: Global, stored: u32, bit: u32, kept: usize) -> Result<MemSource, AllocError> {
-    let mut image = rings(alloc, 16384, Nothing)?;
+    let mut image = rings(alloc, 16384, &SOUND)?;
     image.put_block(0, zero(alloc, 16384, stored, bit)?);
     image.bytes.truncate(kept);
     Ok(MemSource::new(image.bytes, Vec::new(alloc)))
 }
 
+// Whether this is answered of both the ring and its newest checkpoint.
+fn is_answered(alloc: Global, row: &Zero) -> Result<bool, AllocError> {
+    let mut source = cut_ring(alloc, row.0, row.1, row.2)?;
+    let listed = ring(alloc, &mut source).err();
+    Ok(listed == Some(row.3) && newest(alloc, &mut source).err() == Some(row.3))
+}
+
 #[test]
 fn the_first_test_that_fails_is_answered(rt: HostRuntime) {
-    let alloc = rt.alloc();
-    for (stored, bit, kept, stop) in ZEROS {
-        let mut source = cut_ring(alloc, stored, bit, kept)
-            .ok()
-            .expect(&rt, "memory");
-        assert!(rt;
-            ring(alloc, &mut source).err() == Some(stop)
-                && newest(alloc, &mut source).err() == Some(stop),
-            "{stored} {kept}"
-        );
+    for (i, row) in ZEROS.iter().enumerate() {
+        assert!(rt; is_answered(rt.alloc(), row) == Ok(true), "row {i}");
     }
 }
 
 // Reads that fail.
-const READS: [u64; 7] = [1, 2, 3, 12, 15, 16, 19];
+const READS: &[u64] = &[1, 2, 3, 12, 15, 16, 19];
 
 #[test]
 fn a_failed_read_stops_it(rt: HostRuntime) {
-    let alloc = rt.alloc();
     for read in READS {
-        let mut source = ring_source(&rt, alloc, 16384, Nothing, read);
         assert!(rt;
-            newest(alloc, &mut source).err() == Some(Stop::ReadFault),
+            found_with(rt.alloc(), 16384, &SOUND, *read) == Err(Stop::ReadFault),
             "{read}"
         );
     }
 }
 
 // A ring of eight candidates without maps, of these transactions; those of `broken` don't end at their superblocks.
-fn bare_ring(alloc: Global, xids: [u64; 8], broken: u64) -> Result<MemSource, AllocError> {
+fn bare_ring(alloc: Global, xids: &[u64], broken: u64) -> Result<MemSource, AllocError> {
     let bytes = vec![in alloc; 0u8; 4096 * 32]?;
     let mut image = Image { bytes, size: 4096 };
     image.put_bare(alloc, xids, broken)?;
     Ok(MemSource::new(image.bytes, Vec::new(alloc)))
 }
 
-// Transactions, the one that is broken, and what is the newest: its index, its transaction, those skipped.
-type Bare = ([u64; 8], u64, u32, u64, &'static [(u32, u64)]);
+// Transactions, the one that is broken, those skipped, and the index and the transaction of the newest.
+type Bare = (&'static [u64], u64, &'static [(u32, u64)], (u32, u64));
 
-const BARE: [Bare; 4] = [
-    ([3, 5, 5, 2, 5, 1, 4, 2], 9, 1, 5, &[]),
-    ([3, 5, 5, 2, 5, 1, 4, 2], 5, 6, 4, &[(1, 5), (2, 5), (4, 5)]),
-    ([7, 7, 7, 7, 7, 7, 7, 7], 9, 0, 7, &[]),
-    ([1, 2, 3, 9, 8, 8, 3, 9], 9, 4, 8, &[(3, 9), (7, 9)]),
+const BARE: &[Bare] = &[
+    (&[3, 5, 5, 2, 5, 1, 4, 2], 9, &[], (1, 5)),
+    (
+        &[3, 5, 5, 2, 5, 1, 4, 2],
+        5,
+        &[(1, 5), (2, 5), (4, 5)],
+        (6, 4),
+    ),
+    (&[7, 7, 7, 7, 7, 7, 7, 7], 9, &[], (0, 7)),
+    (&[1, 2, 3, 9, 8, 8, 3, 9], 9, &[(3, 9), (7, 9)], (4, 8)),
 ];
 
+// What is found in a bare ring, and the reads.
+fn found_bare(alloc: Global, row: &Bare) -> Result<(Found, u64), Stop<RingFault>> {
+    let mut source = bare_ring(alloc, row.0, row.1)?;
+    let found = found(alloc, &mut source, row.2)?;
+    Ok((found, source.read_count()))
+}
+
+// The reads are those of block 0, of the 8 descriptors, and of the superblock again.
 #[test]
 fn the_greatest_transaction_comes_first_and_then_the_least_index(rt: HostRuntime) {
-    let alloc = rt.alloc();
-    for (xids, broken, index, xid, skipped) in BARE {
-        let mut source = bare_ring(alloc, xids, broken).ok().expect(&rt, "memory");
-        let checkpoint = newest(alloc, &mut source).ok().expect(&rt, "stopped");
-        // The reads are those of block 0, of the 8 descriptors, and of the superblock again.
+    for (i, row) in BARE.iter().enumerate() {
+        let (index, xid) = row.3;
         assert!(rt;
-            checkpoint.index() == index
-                && checkpoint.xid() == xid
-                && checkpoint.skipped() == skipped
-                && source.read_count() == 10
+            found_bare(rt.alloc(), row) == Ok(((index, xid, true), 10)),
+            "row {i}"
         );
     }
 }
@@ -452,30 +512,28 @@ fn crowd(alloc: Global, oid: u64, last: u8) -> Result<MemSource, AllocError> {
     Ok(MemSource::new(image.bytes, Vec::new(alloc)))
 }
 
-// The oid of the object, its last byte, and the reads: block 0, the 8 descriptors, 4 maps; the first block for each
-// candidate, or the four blocks for the first.
-const FLAWED: [(u64, u8, u64); 2] = [(7, 0, 17), (1024, 1, 17)];
-
 // No candidate is sound.
 const NO_CHECKPOINT: Stop<RingFault> = Stop::Found(RingFault::NoCheckpoint);
 
-#[test]
-fn a_flawed_object_is_read_to_its_first_flaw_and_once(rt: HostRuntime) {
-    let alloc = rt.alloc();
-    for (oid, last, reads) in FLAWED {
-        let mut source = crowd(alloc, oid, last).ok().expect(&rt, "memory");
-        assert!(rt;
-            newest(alloc, &mut source).err() == Some(NO_CHECKPOINT) && source.read_count() == reads,
-            "{oid}"
-        );
-    }
+// The oid of the object, its last byte, what is found, and the reads: block 0, the 8 descriptors, 4 maps; the first block for each
+// candidate, or the four blocks for the first. Where the object is sound, one map, its four blocks, then the superblock and the four
+// blocks again.
+type Crowd = (u64, u8, Result<Found, Stop<RingFault>>, u64);
+
+const CROWDS: &[Crowd] = &[
+    (7, 0, Err(NO_CHECKPOINT), 17),
+    (1024, 1, Err(NO_CHECKPOINT), 17),
+    (1024, 0, Ok((7, 5, true)), 19),
+];
+
+fn is_found(alloc: Global, row: &Crowd) -> Result<bool, AllocError> {
+    let mut source = crowd(alloc, row.0, row.1)?;
+    Ok(found(alloc, &mut source, &[]) == row.2 && source.read_count() == row.3)
 }
 
-// One map, the four blocks of the object, then the superblock and the four blocks again.
 #[test]
-fn a_sound_object_is_read_twice(rt: HostRuntime) {
-    let alloc = rt.alloc();
-    let mut source = crowd(alloc, 1024, 0).ok().expect(&rt, "memory");
-    let checkpoint = newest(alloc, &mut source).ok().expect(&rt, "stopped");
-    assert!(rt; checkpoint.xid() == 5 && checkpoint.index() == 7 && source.read_count() == 19);
+fn an_object_is_read_twice_or_to_its_first_flaw_and_once(rt: HostRuntime) {
+    for (i, row) in CROWDS.iter().enumerate() {
+        assert!(rt; is_found(rt.alloc(), row) == Ok(true), "row {i}");
+    }
 }

@@ -1,16 +1,24 @@
 // The volume of the small sample container, a second volume beside it, and small edits of both.
 
+// A feature, and the block that is told with it.
+macro_rules! feature {
+    ($feature:expr, $block:expr) => {
+        Some(Stop::Unsupported {
+            feature: $feature,
+            block: $block,
+        })
+    };
+}
+
 mod loads;
 
-use blk_source::MemSource;
+use blk_source::{MemSource, NoMemory};
 use fs_name::Names;
-use img_make::{Plan, Sample, edit, made, make_with, sample, table, write};
+use img_make::{Plan, Sample, edit, make, make_with, sample, table, write};
 use nx_ring::{RingFault, newest};
 use obj_base::{Feature, HeadFault, Stop, Within};
 use omap_map::OmapFault;
 use std::alloc::Global;
-use std::process::Abort;
-use std::test::Fail;
 use vol_view::VolStop::*;
 use vol_view::{VolHead, VolStop, heads};
 
@@ -32,8 +40,12 @@ const UUID: [u8; 16] = [
     0xff, 0xee, 0xdd, 0xcc, 0xbb, 0xaa, 0x99, 0x88, 0x77, 0x66, 0x55, 0x44, 0x33, 0x22, 0x11, 0x00,
 ];
 
-fn changed(alloc: Global, plan: &Plan, edits: &[Edit], sealed: bool) -> Result<Vec<u8>, Fail> {
-    let mut image = made(alloc, plan)?;
+// The container of a plan, changed by these edits; what is wrong with those is told as want of memory.
+fn changed(alloc: Global, plan: &Plan, edits: &[Edit], sealed: bool) -> Result<Vec<u8>, NoMemory> {
+    if !plan.valid() {
+        return Err(NoMemory);
+    }
+    let mut image = make(alloc, plan)?;
     for (block, place, byte) in edits.iter() {
         let done = if sealed {
             edit(&mut image, 4096, *block, *place, &[*byte])
@@ -41,25 +53,25 @@ fn changed(alloc: Global, plan: &Plan, edits: &[Edit], sealed: bool) -> Result<V
             write(&mut image, 4096, *block, *place, &[*byte])
         };
         if !done {
-            return Err(Fail::from("no such place"));
+            return Err(NoMemory);
         }
     }
     Ok(image)
 }
 
 // A sample container, changed by these edits.
-fn edited(alloc: Global, of: Sample, edits: &[Edit], sealed: bool) -> Result<Vec<u8>, Fail> {
+fn edited(alloc: Global, of: Sample, edits: &[Edit], sealed: bool) -> Result<Vec<u8>, NoMemory> {
     let plan = sample(alloc, of)?;
     changed(alloc, &plan, edits, sealed)
 }
 
 // The small container with blocks of 65,536 bytes.
-fn large(alloc: Global) -> Result<Vec<u8>, Fail> {
+fn large(alloc: Global) -> Result<Vec<u8>, NoMemory> {
     let plan = sample(alloc, Sample::S)?;
     if !plan.valid() || plan.blocks > 256 {
-        return Err(Fail::from("the plan isn't valid"));
+        return Err(NoMemory);
     }
-    Ok(make_with(alloc, &plan, 65536)?)
+    make_with(alloc, &plan, 65536)
 }
 
 // What gives the two volumes of a container the slots 0 and 3, and the roles 0x40 and 0x102. The second gets no features
@@ -77,17 +89,17 @@ const GAP: &[Edit] = table! {
 };
 
 // Adds a second volume to the plan of the small container.
-fn add_second(alloc: Global, plan: &mut Plan) -> Result<(), Fail> {
+fn add_second(alloc: Global, plan: &mut Plan) -> Result<(), NoMemory> {
     let mut other = sample(alloc, Sample::S)?;
     let Some(mut volume) = other.volumes.pop() else {
-        return Err(Fail::from("the sample has no volume"));
+        return Err(NoMemory);
     };
     volume.name = b"Second".to_vec(alloc)?;
     Ok(plan.volumes.push(volume)?)
 }
 
 // The small container with a second volume, changed by these edits.
-fn with_a_gap(alloc: Global) -> Result<Vec<u8>, Fail> {
+fn with_a_gap(alloc: Global) -> Result<Vec<u8>, NoMemory> {
     let mut plan = sample(alloc, Sample::S)?;
     add_second(alloc, &mut plan)?;
     changed(alloc, &plan, GAP, true)
@@ -108,98 +120,77 @@ fn volumes(alloc: Global, image: Vec<u8>) -> Result<Vec<VolHead>, Stop<VolStop>>
 
 // Whether this is the head of the small container's volume.
 fn is_small(head: &VolHead) -> bool {
-    head.slot == 0
-        && head.oid == 1026
-        && head.block == 51
+    (head.slot, head.oid, head.block) == (0, 1026, 51)
+        && (head.role, head.incompat, head.snapshots) == (0, 1, 0)
         && head.uuid == UUID
-        && head.role == 0
-        && head.incompat == 1
-        && head.snapshots == 0
         && head.name.as_slice() == b"Small".as_slice()
 }
 
-fn assert_small(rt: &impl Abort, alloc: Global, image: Vec<u8>) {
-    let heads = volumes(alloc, image).ok().expect(rt, "there are no heads");
-    assert!(rt; heads.len() == 1 && is_small(&heads[0]));
+// Whether an image has that volume alone.
+fn has_small(alloc: Global, image: Vec<u8>) -> Result<bool, Stop<VolStop>> {
+    let heads = volumes(alloc, image)?;
+    Ok(heads.len() == 1 && is_small(&heads[0]))
+}
+
+fn has_small_after(alloc: Global, edits: &[Edit]) -> Result<bool, Stop<VolStop>> {
+    has_small(alloc, edited(alloc, Sample::S, edits, true)?)
+}
+
+fn has_small_in_large(alloc: Global) -> Result<bool, Stop<VolStop>> {
+    has_small(alloc, large(alloc)?)
 }
 
 // The volume's flags become 0.
 const NO_FLAGS: &[Edit] = &[(SUPER, 264, 0)];
 
+fn is_first(head: &VolHead) -> bool {
+    (head.slot, head.oid, head.block) == (0, 1026, 51)
+        && (head.role, head.incompat, head.snapshots) == (0x40, 1, 0)
+        && head.names() == Names::Folded
+}
+
+fn is_second(head: &VolHead) -> bool {
+    (head.slot, head.oid, head.block) == (3, 1031, 57)
+        && (head.role, head.incompat, head.snapshots) == (0x102, 0, 5)
+        && head.names() == Names::Exact
+        && head.name.as_slice() == b"Second".as_slice()
+}
+
+fn has_two(alloc: Global) -> Result<bool, Stop<VolStop>> {
+    let heads = volumes(alloc, with_a_gap(alloc)?)?;
+    Ok(heads.len() == 2 && is_first(&heads[0]) && is_second(&heads[1]))
+}
+
 #[test]
-fn the_small_volume(rt: HostRuntime) -> Result<(), Fail> {
+fn the_small_volume_and_two_with_an_empty_slot_between(rt: HostRuntime) {
     let alloc = rt.alloc();
-    assert_small(&rt, alloc, edited(alloc, Sample::S, &[], true)?);
-    assert_small(&rt, alloc, edited(alloc, Sample::S, NO_FLAGS, true)?);
-    assert_small(&rt, alloc, large(alloc)?);
-    Ok(())
+    assert!(rt; has_small_after(alloc, &[]) == Ok(true));
+    assert!(rt; has_small_after(alloc, NO_FLAGS) == Ok(true));
+    assert!(rt; has_small_in_large(alloc) == Ok(true));
+    assert!(rt; has_two(alloc) == Ok(true));
 }
 
-fn assert_two(rt: &impl Abort, heads: &[VolHead]) {
-    assert!(rt; heads.len() == 2);
-    let first = &heads[0];
-    assert!(rt;
-        first.slot == 0
-            && first.oid == 1026
-            && first.block == 51
-            && first.role == 0x40
-            && first.incompat == 1
-            && first.snapshots == 0
-            && first.names() == Names::Folded
-    );
-    let second = &heads[1];
-    assert!(rt;
-        second.slot == 3
-            && second.oid == 1031
-            && second.block == 57
-            && second.role == 0x102
-            && second.incompat == 0
-            && second.snapshots == 5
-            && second.names() == Names::Exact
-            && second.name.as_slice() == b"Second".as_slice()
-    );
-}
-
-#[test]
-fn two_volumes_with_an_empty_slot_between(rt: HostRuntime) -> Result<(), Fail> {
-    let image = with_a_gap(rt.alloc())?;
-    let heads = volumes(rt.alloc(), image)
-        .ok()
-        .expect(&rt, "there are no heads");
-    assert_two(&rt, &heads);
-    Ok(())
-}
-
-// A source of the small container, and the number of the read that fails, if any does.
-fn small_source(alloc: Global, fails: u64) -> Result<MemSource, Fail> {
+// The reads of the small container's heads, where the read of a number fails, if any does.
+fn reads_of_small(alloc: Global, fails: u64) -> Result<u64, Stop<VolStop>> {
     let image = edited(alloc, Sample::S, &[], true)?;
-    Ok(MemSource::new(image, vec![in alloc; fails]?))
-}
-
-// The reads of the small container's heads.
-fn reads_of_small(rt: &impl Abort, alloc: Global) -> Result<u64, Fail> {
-    let mut src = small_source(alloc, 0)?;
-    assert!(rt; volumes_in(alloc, &mut src).is_ok());
-    let reads = src.read_count();
-    drop(src);
-    Ok(reads)
+    let mut src = MemSource::new(image, vec![in alloc; fails]?);
+    drop(volumes_in(alloc, &mut src)?);
+    Ok(src.read_count())
 }
 
 // The last three reads are those of the container's map, of the node of its records, and of the volume's superblock.
 #[test]
-fn a_failed_read_stops_them(rt: HostRuntime) -> Result<(), Fail> {
+fn a_failed_read_stops_them(rt: HostRuntime) {
     let alloc = rt.alloc();
-    let last = reads_of_small(&rt, alloc)?;
+    let last = reads_of_small(alloc, 0).unwrap_or(0);
     assert!(rt; last > 3);
     for before in 0..3u64 {
         let read = last.saturating_sub(before);
-        let mut src = small_source(alloc, read)?;
         assert!(rt;
-            volumes_in(alloc, &mut src).err() == Some(Stop::ReadFault),
+            reads_of_small(alloc, read) == Err(Stop::ReadFault),
             "{read}"
         );
     }
-    Ok(())
 }
 
 // An edit, whether its block is sealed again, and the fault.
@@ -210,30 +201,31 @@ const FAULTS: &[(Edit, bool, VolStop)] = table! {
     (MAP, 4095, 1), false, Omap(OmapFault::Head { block: 25, why: HeadFault::BadSum });
 };
 
-#[test]
-fn what_stops_the_volumes(rt: HostRuntime) -> Result<(), Fail> {
-    let alloc = rt.alloc();
-    for (edit, sealed, fault) in FAULTS {
-        let image = edited(alloc, Sample::S, &[*edit], *sealed)?;
-        assert!(rt; volumes(alloc, image).err() == Some(Stop::Found(*fault)));
+// What stops the volumes after an edit.
+fn stop_after(alloc: Global, edit: Edit, sealed: bool) -> Option<Stop<VolStop>> {
+    match edited(alloc, Sample::S, &[edit], sealed) {
+        Ok(image) => volumes(alloc, image).err(),
+        Err(_) => Some(Stop::NoMemory),
     }
-    Ok(())
 }
 
-// An edit, the feature, and the block that is told with it.
-const FEATURES: [(Edit, Feature, u64); 3] = [
-    ((MAP, 36, 1), Feature::ContainerSnapshots, 25),
-    ((RECORDS, 4040, 8), Feature::NoHeader, 51),
-    ((RECORDS, 4045, 32), Feature::Size, 51),
-];
+#[test]
+fn what_stops_the_volumes(rt: HostRuntime) {
+    for (edit, sealed, fault) in FAULTS {
+        assert!(rt; stop_after(rt.alloc(), *edit, *sealed) == Some(Stop::Found(*fault)));
+    }
+}
+
+// An edit, and the stop.
+const FEATURES: &[(Edit, Option<Stop<VolStop>>)] = table! {
+    (MAP, 36, 1), feature!(Feature::ContainerSnapshots, 25);
+    (RECORDS, 4040, 8), feature!(Feature::NoHeader, 51);
+    (RECORDS, 4045, 32), feature!(Feature::Size, 51);
+};
 
 #[test]
-fn features_of_the_map_and_of_its_record(rt: HostRuntime) -> Result<(), Fail> {
-    let alloc = rt.alloc();
-    for (edit, feature, block) in FEATURES {
-        let image = edited(alloc, Sample::S, &[edit], true)?;
-        let stop = Stop::Unsupported { feature, block };
-        assert!(rt; volumes(alloc, image).err() == Some(stop));
+fn features_of_the_map_and_of_its_record(rt: HostRuntime) {
+    for (edit, stop) in FEATURES {
+        assert!(rt; stop_after(rt.alloc(), *edit, true) == *stop);
     }
-    Ok(())
 }

@@ -8,7 +8,6 @@ use bt_cursor::{GatherFault, Keeper, LineItem, Physical, WalkFault, gather};
 use bt_keys::QueueKey;
 use obj_base::Stop;
 use std::alloc::Global;
-use std::process::Abort;
 
 /// The first words of the keys of leaves, and the ids of the children; an item above level 1 is refused.
 #[derive(Drop)]
@@ -41,13 +40,8 @@ impl Keeper<QueueKey> for Words {
 }
 
 // Gathers the tree in block 1, over a source of which a read fails, if any does.
-fn gathered(
-    rt: &impl Abort,
-    alloc: Global,
-    nodes: &[Node],
-    fails: u64,
-) -> Result<Words, Stop<GatherFault>> {
-    let mut src = container(rt, alloc, QUEUE, nodes, fails);
+fn gathered(alloc: Global, nodes: &[Node], fails: u64) -> Result<Words, Stop<GatherFault>> {
+    let mut src = container(alloc, QUEUE, nodes, fails)?;
     let none = Words {
         words: Vec::new(alloc),
         children: Vec::new(alloc),
@@ -55,19 +49,20 @@ fn gathered(
     gather::<QueueKey, MemSource, Physical, Words>(alloc, &mut src, PHYSICAL, 1, &SITE, none)
 }
 
+const ONE_TO_THREE: &[u64] = &[1, 2, 3];
+
+fn is_gathered(alloc: Global) -> Result<bool, Stop<GatherFault>> {
+    let kept = gathered(alloc, WHOLE, 0)?;
+    Ok(kept.words.as_slice() == ONE_TO_THREE && kept.children.as_slice() == &ONE_TO_THREE[1..])
+}
+
 #[test]
 fn what_items_give_is_gathered(rt: HostRuntime) {
-    let kept = gathered(&rt, rt.alloc(), WHOLE, 0)
-        .ok()
-        .expect(&rt, "it is whole");
-    assert!(rt;
-        kept.words.as_slice() == [1, 2, 3].as_slice()
-            && kept.children.as_slice() == [2, 3].as_slice()
-    );
+    assert!(rt; is_gathered(rt.alloc()) == Ok(true));
 }
 
 // Trees, the number of the read that fails, if any does, and why they can't be gathered.
-const STOPPED: [(&[Node], u64, Stop<GatherFault>); 3] = [
+const STOPPED: &[(&[Node], u64, Stop<GatherFault>)] = &[
     (
         TOO_FEW,
         0,
@@ -84,7 +79,6 @@ const STOPPED: [(&[Node], u64, Stop<GatherFault>); 3] = [
 #[test]
 fn what_stops_is_not_gathered(rt: HostRuntime) {
     for (nodes, fails, stop) in STOPPED {
-        let found = gathered(&rt, rt.alloc(), nodes, fails).err();
-        assert!(rt; found == Some(stop));
+        assert!(rt; gathered(rt.alloc(), nodes, *fails).err() == Some(*stop));
     }
 }

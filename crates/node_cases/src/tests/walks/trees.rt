@@ -5,7 +5,7 @@ use bt_cursor::WalkFault;
 use bt_cursor::WalkFault::*;
 use bt_node::NodeFault;
 use img_edit::node::{Totals, Tree};
-use obj_base::HeadFault;
+use obj_base::{HeadFault, Stop};
 
 /// The keys of a queue are two numbers, and a tree has each once.
 pub const QUEUE: Form = Form {
@@ -145,23 +145,26 @@ pub const EQUAL_RANKS: &[Node] = &[
     leaf!(&[(TWO_NINE, 0), (SIXTEEN_THREE, 0)]),
 ];
 
-/// Two leaves in the blocks 2 and 3 under a root, and a node above leaves in block 4; the items of the Line, and where the
-/// walk stops.
-pub type Pair = (&'static [Node], &'static [Item], WalkFault);
+/// How a walk ends.
+pub type End = Result<(), Stop<WalkFault>>;
 
-// A table of these: a row has what the root tells and names, the keys of each leaf, the items, and the stop, and ends with a
-// semicolon.
+/// A tree, the number of the read that fails, if any does, the items of its Line, and how its walk ends.
+pub type Walk = (&'static [Node], u64, &'static [Item], End);
+
+// A table of trees of two leaves in the blocks 2 and 3 under a root, and a node above leaves in block 4: a row has what the root tells
+// and names, the keys of each leaf, the items, and the stop, and ends with a semicolon.
 macro_rules! pairs {
     ($(($keys:expr, $nodes:expr), $children:expr, $first:expr, $second:expr, $items:expr, $fault:expr;)*) => {
         &[$((
             &[root!(1, ($keys, $nodes), $children), leaf!($first), leaf!($second), inner!(1, &[(3, 3)])],
+            0,
             $items,
-            $fault,
+            Err(Stop::Found($fault)),
         )),*]
     };
 }
 
-pub const TWO_LEAVES: &[Pair] = pairs! {
+pub const TWO_LEAVES: &[Walk] = pairs! {
     (3, 3), &[(1, 2), (3, 3)], &[(2, 0), (1, 0)], &[(3, 0)], &[(1, 1, 0), (0, 2, 0)], Order { item: 2 };
     (3, 3), &[(1, 2), (3, 3)], &[(1, 0), (4, 0)], &[(3, 0)], &[(1, 1, 0), (0, 1, 0), (0, 4, 0)], Order { item: 3 };
     (3, 3), &[(1, 2), (3, 3)], &[(1, 0), (3, 0)], &[(3, 0)], &[(1, 1, 0), (0, 1, 0), (0, 3, 0), (1, 3, 0)], Order { item: 4 };
