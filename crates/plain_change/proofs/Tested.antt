@@ -1,6 +1,6 @@
 -- What is tested of a change, put together.
 use Rattle.std.proofs.Common.{◌≡◌, ℕ, ◌+◌, ◌<◌, Bool, true, false, ◌&&◌, ◌||◌, ◌==◌, List, Option, Some, None, inl, inr, refl, ap, arith}
-use Rattle.std.specs.Prelude.{not, nat_lt, is_some, is_none}
+use Rattle.std.specs.Prelude.{not, nat_lt, is_some, is_none, All}
 use Rattle.std.specs.List.{list_any}
 use Rattle.apfs_model.specs.Lists.{In}
 use Rattle.apfs_model.proofs.BoolTests.{either-from, left-or, right-or, equal-from, from-equal, below-from, from-below}
@@ -19,11 +19,11 @@ use Rattle.view_rules.specs.declared.profile.Profile.{Profile}
 use Rattle.view_rules.specs.declared.profile.Profile.TheVariants.{Strict}
 use Rattle.rule_changes.specs.Changes.{IsChange, IsPlainChange, has_fact, is_name_of, is_renamed, is_refilled, is_stripped, is_newly_shared}
 use Rattle.plain_change.specs.Fellows.{keeps_sharing, IsSharedStill}
-use Rattle.plain_change.specs.Parts.{AreEntriesRight, AreNamesRight, AreInodesRight, AreStreamsRight}
+use Rattle.plain_change.specs.Parts.{IsEntryRight, AreEntriesRight, AreNamesRight, AreInodesRight, AreStreamsRight}
 use Rattle.rule_changes.proofs.Weaving.{in-differs}
 use Rattle.rule_changes.proofs.Named.{ascii-hashes-kept}
 use Rattle.rule_changes.proofs.Known.{counts-follow}
-use Rattle.plain_change.proofs.Looks.{none-at}
+use Rattle.plain_change.proofs.Looks.{none-at, each-in}
 
 -- ---- the ids of which something speaks
 pub renamed-clear : (gone come : Facts) (bad : ℕ → Bool) → list_any (λ (f : Fact Inode). bad f.id) come.inodes ≡ false → list_any (λ (e : Fact Entry). bad e.what.file_id) gone.entries ≡ false
@@ -98,6 +98,18 @@ shared-clear before after gone come same change marks still e listed =
     ]
 
 -- ---- all parts
+pub entries-right : (after come : Facts) → All (IsEntryRight after) come.entries → AreEntriesRight after come
+entries-right after come all = right (each-in (IsEntryRight after) come.entries all)
+  where
+    right : ((e : Fact Entry) → In e come.entries → IsEntryRight after e) → AreEntriesRight after come
+    right each = record {
+      hashes = λ e listed. (each e listed).hash;
+      parents = λ e listed. (each e listed).parent;
+      files = λ e listed. (each e listed).file;
+      kinds = λ e listed. (each e listed).kind;
+      marks = λ e listed. (each e listed).mark;
+    }
+
 pub plain : (profile : Profile) (site : Site) (ranges : List NewRange) (before after gone come same : Facts) → HasFactRules profile site ranges before → IsChange before after gone come same
     → AreEntriesRight after come → AreNamesRight after gone come → AreInodesRight after gone come → AreStreamsRight site ranges after gone come → ((x : Fact Entry) → In x come.entries → IsSharedStill after gone come x)
     → (profile ≡ Strict → IsClear (has_other_name_hash after) come.entries) → IsPlainChange profile site ranges before after gone come

@@ -29,6 +29,13 @@ IsSettled after file sibling = (m : Fact ℕ) → In m after.siblings → is_map
 abbrev pub IsEntrySettled : Facts → Fact Entry → Type 0
 IsEntrySettled after e = (m : Fact ℕ) → In m after.siblings → is_entry_of m.what m.id e ≡ true → is_map_lost after m ≡ false
 
+-- of a link and of an entry that are gone
+abbrev pub IsLinkLeft : Facts → Fact Link → Type 0
+IsLinkLeft after l = IsLinkLetGo after l × IsSettled after l.what.file l.what.sibling
+
+abbrev pub IsEntryLeft : Facts → Fact Entry → Type 0
+IsEntryLeft after e = LeavesLinks after e × IsEntrySettled after e
+
 -- all entries of a file have come; or it had two of them or more before, which are those after less those that have come, and those that
 -- are gone
 unfoldable pub keeps_sharing : Facts → Facts → Facts → ℕ → Bool

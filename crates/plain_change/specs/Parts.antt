@@ -5,7 +5,9 @@ use Rattle.obj_base.specs.declared.site.Site.{Site}
 use Rattle.ext_ref.specs.declared.range.NewRange.{NewRange}
 use Rattle.fs_record.specs.Inodes.{Inode}
 use Rattle.fs_record.specs.Entries.{Entry}
+use Rattle.fs_record.specs.Attributes.{Attribute}
 use Rattle.fs_record.specs.Facts.{Fact}
+use Rattle.fs_record.specs.declared.extents.FileExt.{FileExt}
 use Rattle.view_rules.specs.Words.{IsClear}
 use Rattle.view_rules.specs.Facts.{Facts}
 use Rattle.view_rules.specs.Names.{is_entry_repeated, is_attribute_repeated, has_other_ascii_hash, HasAsciiHashes}
@@ -29,6 +31,14 @@ IsLetGo after come f = (has_double come f ≡ true) ⊎ IsUnused after f
 abbrev pub HasWay : Facts → Facts → Fact Inode → Type 0
 HasWay after gone f = is_user_directory f ≡ true → (stands_as_in gone f ≡ true) ⊎ Leads (parent_at after) f.id
 
+-- of an entry that has come
+pub record IsEntryRight (after : Facts) (e : Fact Entry) : Type 0 where
+  pub hash : has_other_ascii_hash after e ≡ false
+  pub parent : lacks_parent after e ≡ false
+  pub file : lacks_inode after e ≡ false
+  pub kind : has_other_kind after e ≡ false
+  pub mark : is_unmarked after e ≡ false
+
 -- of entries that have come
 pub record AreEntriesRight (after come : Facts) : Type 0 where
   pub hashes : IsClear (has_other_ascii_hash after) come.entries
@@ -36,6 +46,10 @@ pub record AreEntriesRight (after come : Facts) : Type 0 where
   pub files : IsClear (lacks_inode after) come.entries
   pub kinds : IsClear (has_other_kind after) come.entries
   pub marks : IsClear (is_unmarked after) come.entries
+
+-- of an attribute that has come
+abbrev pub IsAttributeRight : Facts → Fact Attribute → Type 0
+IsAttributeRight after a = (lacks_owner after a ≡ false) × (is_attribute_repeated after a ≡ false)
 
 -- of names of entries, of siblings, and of attributes
 pub record AreNamesRight (after gone come : Facts) : Type 0 where
@@ -54,6 +68,11 @@ pub record AreInodesRight (after gone come : Facts) : Type 0 where
   pub children : HasDistinctInodes after → IsClearWhere (is_refilled gone come) (has_other_children after) after.inodes
   pub targets : HasDistinctInodes after → IsClearWhere (is_stripped gone come) (lacks_target after) after.inodes
   pub ways : (f : Fact Inode) → In f come.inodes → HasWay after gone f
+
+-- of an extent that has come
+pub record IsExtentRight (site : Site) (ranges : List NewRange) (f : Fact FileExt) : Type 0 where
+  pub place : is_misplaced site.block_size site.blocks f ≡ false
+  pub cover : is_uncovered site.block_size ranges f ≡ false
 
 -- of streams and extents
 pub record AreStreamsRight (site : Site) (ranges : List NewRange) (after gone come : Facts) : Type 0 where

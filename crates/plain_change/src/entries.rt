@@ -1,70 +1,39 @@
 // The rules on entries that have come.
-ghost use Rattle.std.specs.Prelude.{◌≡◌, None, find, IfOk, IsTrue};
-ghost use Rattle.std.specs.List.{list_any};
-ghost use Rattle.view_rules.specs.Entries as rules;
+ghost use Rattle.std.specs.Prelude.{◌≡◌, None, find, All, IfOk, IsTrue};
 ghost use Rattle.view_rules.specs.Names as names;
-ghost use Rattle.view_rules.specs.Siblings as siblings;
-ghost use Rattle.plain_change.specs.Parts.{AreEntriesRight};
+ghost use Rattle.plain_change.specs.Parts.{IsEntryRight};
 
 use blk_source::NoMemory;
 use rule_breaks::entries::{has_other_kind, lacks_inode, lacks_parent};
 use rule_breaks::names::{has_other_ascii_hash, has_other_name_hash, is_unmarked};
 use rule_index::Index;
 use std::alloc::Global;
-use view_facts::Facts;
+use view_facts::{EntryFact, Facts};
 
-// Whether the hash of an ASCII name is wrong.
-fn have_other_hashes(facts: &Facts, come: &Facts) -> bool
-    ensures { result ≡ list_any (names.has_other_ascii_hash facts.now) come.now.entries }
+// Whether an entry has its directory, its file with its kind, its mark, and the hash of an ASCII name.
+fn is_entry_right(index: &Index<'_>, e: &EntryFact) -> bool
+    ensures { IsTrue result → IsEntryRight index.now.facts.now e.now }
 {
-    come.entries.iter().any(|e| has_other_ascii_hash(facts, e))
-}
-
-// Whether one that counts stands in what is no directory.
-fn lack_parents(index: &Index<'_>, come: &Facts) -> bool
-    ensures { result ≡ list_any (rules.lacks_parent index.now.facts.now) come.now.entries }
-{
-    come.entries.iter().any(|e| lacks_parent(index, e))
-}
-
-// Whether the file of one that counts has no inode.
-fn lack_inodes(index: &Index<'_>, come: &Facts) -> bool
-    ensures { result ≡ list_any (rules.lacks_inode index.now.facts.now) come.now.entries }
-{
-    come.entries.iter().any(|e| lacks_inode(index, e))
-}
-
-// Whether one that counts has another kind than its file.
-fn have_other_kinds(index: &Index<'_>, come: &Facts) -> bool
-    ensures { result ≡ list_any (rules.has_other_kind index.now.facts.now) come.now.entries }
-{
-    come.entries.iter().any(|e| has_other_kind(index, e))
-}
-
-// Whether one of a file with several has no sibling's id.
-fn lack_marks(index: &Index<'_>, come: &Facts) -> bool
-    ensures { result ≡ list_any (siblings.is_unmarked index.now.facts.now) come.now.entries }
-{
-    come.entries.iter().any(|e| is_unmarked(index, e))
+    if has_other_ascii_hash(index.facts, e) {
+        return false;
+    }
+    if lacks_parent(index, e) {
+        return false;
+    }
+    if lacks_inode(index, e) {
+        return false;
+    }
+    if has_other_kind(index, e) {
+        return false;
+    }
+    !is_unmarked(index, e)
 }
 
 /// Whether entries that have come have their directories, their files with their kinds, their marks, and the hashes of ASCII names.
 pub(crate) fn are_entries_right(index: &Index<'_>, come: &Facts) -> bool
-    ensures { IsTrue result → AreEntriesRight index.now.facts.now come.now }
+    ensures { IsTrue result → All (IsEntryRight index.now.facts.now) come.now.entries }
 {
-    if have_other_hashes(index.facts, come) {
-        return false;
-    }
-    if lack_parents(index, come) {
-        return false;
-    }
-    if lack_inodes(index, come) {
-        return false;
-    }
-    if have_other_kinds(index, come) {
-        return false;
-    }
-    !lack_marks(index, come)
+    come.entries.iter().all(|e| is_entry_right(index, e))
 }
 
 /// Whether entries that have come have the hashes of names that aren't ASCII.

@@ -5,12 +5,11 @@ ghost use Rattle.ext_ref.specs.Spans.{IsCoverOf};
 ghost use Rattle.fs_record.specs.Facts.{Fact, all_for};
 ghost use Rattle.fs_record.specs.StreamExtents.{is_extent_even, are_extents_ordered};
 ghost use Rattle.fs_record.specs.declared.extents.FileExt as declared;
-ghost use Rattle.view_rules.specs.Extents as rules;
 ghost use Rattle.view_rules.specs.Inodes as inodes;
-ghost use Rattle.plain_change.specs.Parts.{AreStreamsRight};
+ghost use Rattle.plain_change.specs.Parts.{IsExtentRight, AreStreamsRight};
 
 use crate::lookups::After;
-use ext_ref::{Cover, NewRange};
+use ext_ref::Cover;
 use fs_record::FileExt;
 use rule_breaks::extents::{is_misplaced, is_uncovered};
 use rule_breaks::faults::Asked;
@@ -66,25 +65,28 @@ fn are_streams_ordered(after: &After<'_>, block_size: u32, some: &Facts) -> bool
         .all(|f| is_stream_ordered(after, block_size, f.id()))
 }
 
-// Whether an extent leaves a container of so many blocks.
-fn leave(come: &Facts, block_size: u32, blocks: u64) -> bool
-    requires { 0 < block_size }
-    ensures { result ≡ list_any (rules.is_misplaced block_size blocks) come.now.extents }
+// Whether an extent lies in the container, and the new ranges cover it.
+fn is_extent_right(asked: &Asked<'_>, cover: &Cover, f: &ExtentFact) -> bool
+    requires size { 0 < asked.now.site.now.block_size }
+    requires cover { IsCoverOf asked.now.ranges.now cover.now }
+    ensures { IsTrue result → IsExtentRight asked.now.site.now asked.now.ranges.now f.now }
 {
-    come.extents
-        .iter()
-        .any(|f| is_misplaced(block_size, blocks, f))
+    let site = asked.site;
+    if is_misplaced(site.block_size, site.blocks, f) {
+        return false;
+    }
+    !is_uncovered(site.block_size, cover, asked.ranges, f)
 }
 
-// Whether the ranges don't cover an extent.
-fn lack_cover(come: &Facts, block_size: u32, cover: &Cover, ranges: &[NewRange]) -> bool
-    requires size { 0 < block_size }
-    requires cover { IsCoverOf ranges.now cover.now }
-    ensures { result ≡ list_any (rules.is_uncovered block_size ranges.now) come.now.extents }
+// Whether all extents that have come do.
+fn are_extents_right(asked: &Asked<'_>, cover: &Cover, come: &Facts) -> bool
+    requires size { 0 < asked.now.site.now.block_size }
+    requires cover { IsCoverOf asked.now.ranges.now cover.now }
+    ensures { IsTrue result → All (IsExtentRight asked.now.site.now asked.now.ranges.now) come.now.extents }
 {
     come.extents
         .iter()
-        .any(|f| is_uncovered(block_size, cover, ranges, f))
+        .all(|f| is_extent_right(asked, cover, f))
 }
 
 // Whether the stream of an inode is too large.
@@ -120,10 +122,7 @@ pub(crate) fn are_streams_right(
     if !are_streams_ordered(after, site.block_size, come) {
         return false;
     }
-    if leave(come, site.block_size, site.blocks) {
-        return false;
-    }
-    if lack_cover(come, site.block_size, cover, asked.ranges) {
+    if !are_extents_right(asked, cover, come) {
         return false;
     }
     !have_large_streams(come) && !have_large_bodies(come)

@@ -1,9 +1,7 @@
 // Whether a change is plain.
 ghost use Rattle.std.specs.Prelude.{◌≡◌, ◌<◌, None, find, IfOk, IsTrue};
-ghost use Rattle.std.specs.List.{list_any};
 ghost use Rattle.ext_ref.specs.Spans.{IsCoverOf};
 ghost use Rattle.view_rules.specs.Facts as facts;
-ghost use Rattle.view_rules.specs.Inodes as inodes;
 ghost use Rattle.view_rules.specs.Names as names;
 ghost use Rattle.view_rules.specs.Words.{IsClear};
 ghost use Rattle.view_rules.specs.Rules.{HasFactRules};
@@ -16,7 +14,7 @@ use crate::entries::{are_entries_right, have_name_hashes};
 use crate::extents::are_streams_right;
 use crate::lookups::After;
 use crate::removed::are_let_go;
-use crate::repeats::{are_attributes_alone, are_entries_alone};
+use crate::repeats::{are_attributes_right, are_entries_alone};
 use crate::shared::are_still_shared;
 use crate::siblings::are_fellows_right;
 use crate::touched::{
@@ -29,18 +27,10 @@ use ext_ref::Cover;
 use rule_breaks::directories::is_root_named;
 use rule_breaks::entries::has_root;
 use rule_breaks::faults::Asked;
-use rule_breaks::inodes::lacks_owner;
 use rule_index::Index;
 use std::alloc::Global;
 use view_facts::Facts;
 use view_rules::Profile;
-
-// Whether the file of an attribute that has come has no inode.
-fn lack_owners(index: &Index<'_>, come: &Facts) -> bool
-    ensures { result ≡ list_any (inodes.lacks_owner index.now.facts.now) come.now.attributes }
-{
-    come.attributes.iter().any(|a| lacks_owner(index, a))
-}
 
 // Whether names, siblings and attributes that are gone or have come are as they must be.
 fn are_names_right(after: &After<'_>, gone: &Facts, come: &Facts) -> bool
@@ -52,7 +42,7 @@ fn are_names_right(after: &After<'_>, gone: &Facts, come: &Facts) -> bool
     if !are_entries_alone(after, come) {
         return false;
     }
-    are_attributes_alone(after, come) && !lack_owners(after.index, come)
+    are_attributes_right(after, come)
 }
 
 // Whether the root, inodes that are gone, and those of whose ids something speaks are as they must be.

@@ -4,9 +4,10 @@ ghost use Rattle.fs_name.specs.Text.{is_ascii_name};
 ghost use Rattle.fs_name.specs.Normal.{are_hashed};
 ghost use Rattle.apfs_model.specs.Lists.{In};
 ghost use Rattle.view_rules.specs.Names as spec;
-ghost use Rattle.plain_change.specs.Parts.{IsAlone};
+ghost use Rattle.plain_change.specs.Parts.{IsAlone, IsAttributeRight};
 
 use crate::lookups::After;
+use rule_breaks::inodes::lacks_owner;
 use view_facts::{AttributeFact, EntryFact, Facts};
 
 // How many entries have the directory and the name of one.
@@ -85,9 +86,16 @@ fn is_attribute_alone(after: &After<'_>, a: &AttributeFact) -> bool
     is_attribute_once(after.most(), after.attributes_of(a.id()), a)
 }
 
-/// Whether it shows that no name of an attribute that has come is there again among those of its file.
-pub(crate) fn are_attributes_alone(after: &After<'_>, come: &Facts) -> bool
-    ensures { IsTrue result → All (λ a. spec.is_attribute_repeated after.now.index.now.facts.now a ≡ false) come.now.attributes }
+// Whether it shows that an attribute's name isn't there again among those of its file, which has an inode.
+fn is_attribute_right(after: &After<'_>, a: &AttributeFact) -> bool
+    ensures { IsTrue result → IsAttributeRight after.now.index.now.facts.now a.now }
 {
-    come.attributes.iter().all(|a| is_attribute_alone(after, a))
+    !lacks_owner(after.index, a) && is_attribute_alone(after, a)
+}
+
+/// Whether it shows that no name of an attribute that has come is there again among those of its file, and that each has the inode of its file.
+pub(crate) fn are_attributes_right(after: &After<'_>, come: &Facts) -> bool
+    ensures { IsTrue result → All (IsAttributeRight after.now.index.now.facts.now) come.now.attributes }
+{
+    come.attributes.iter().all(|a| is_attribute_right(after, a))
 }

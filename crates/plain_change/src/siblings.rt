@@ -5,7 +5,7 @@ ghost use Rattle.view_rules.specs.Facts as facts;
 ghost use Rattle.view_rules.specs.Siblings as spec;
 ghost use Rattle.rule_changes.specs.Changes.{KeepsFellows};
 ghost use Rattle.rule_changes.specs.Known.{is_marked, HasNoSiblings};
-ghost use Rattle.plain_change.specs.Fellows.{LeavesLinks, IsLinkLetGo, IsMapLetGo, IsSettled, IsEntrySettled};
+ghost use Rattle.plain_change.specs.Fellows.{LeavesLinks, IsLinkLetGo, IsLinkLeft, IsMapLetGo, IsEntrySettled, IsEntryLeft};
 
 use crate::found::{
     few_links, has_fellows, has_like, has_map, is_entry_found, is_link_found, is_settled,
@@ -94,13 +94,6 @@ fn leaves_links(after: &After<'_>, e: &EntryFact) -> bool
     }
 }
 
-// Whether it shows that links whose entries are gone have their fellows.
-fn leave_links(after: &After<'_>, gone: &Facts) -> bool
-    ensures { IsTrue result → All (LeavesLinks after.now.index.now.facts.now) gone.now.entries }
-{
-    gone.entries.iter().all(|e| leaves_links(after, e))
-}
-
 // Whether it shows that a link has one like it, or no entry.
 fn is_link_let_go(after: &After<'_>, l: &LinkFact) -> bool
     ensures { IsTrue result → IsLinkLetGo after.now.index.now.facts.now l.now }
@@ -108,11 +101,18 @@ fn is_link_let_go(after: &After<'_>, l: &LinkFact) -> bool
     has_like(after, l) || lacks_entry(after, l)
 }
 
-// Whether it shows that each link that is gone has one like it, or no entry.
-fn are_links_let_go(after: &After<'_>, gone: &Facts) -> bool
-    ensures { IsTrue result → All (IsLinkLetGo after.now.index.now.facts.now) gone.now.links }
+// The same, and that the maps of its sibling have their fellows.
+fn is_link_left(after: &After<'_>, l: &LinkFact) -> bool
+    ensures { IsTrue result → IsLinkLeft after.now.index.now.facts.now l.now }
 {
-    gone.links.iter().all(|l| is_link_let_go(after, l))
+    is_link_let_go(after, l) && is_settled(after, l.file(), l.sibling())
+}
+
+// Whether it shows so of each link that is gone.
+fn are_links_left(after: &After<'_>, gone: &Facts) -> bool
+    ensures { IsTrue result → All (IsLinkLeft after.now.index.now.facts.now) gone.now.links }
+{
+    gone.links.iter().all(|l| is_link_left(after, l))
 }
 
 // Whether it shows that a map has one like it, or no link that needs it.
@@ -139,20 +139,18 @@ fn is_entry_settled(after: &After<'_>, e: &EntryFact) -> bool
     }
 }
 
-// Whether it shows that the maps of siblings whose entries are gone have their fellows.
-fn are_entries_settled(after: &After<'_>, gone: &Facts) -> bool
-    ensures { IsTrue result → All (IsEntrySettled after.now.index.now.facts.now) gone.now.entries }
+// Whether it shows that what goes together with an entry, and the maps of its sibling, have their fellows.
+fn is_entry_left(after: &After<'_>, e: &EntryFact) -> bool
+    ensures { IsTrue result → IsEntryLeft after.now.index.now.facts.now e.now }
 {
-    gone.entries.iter().all(|e| is_entry_settled(after, e))
+    leaves_links(after, e) && is_entry_settled(after, e)
 }
 
-// Whether it shows that the maps of siblings whose links are gone have their fellows.
-fn are_links_settled(after: &After<'_>, gone: &Facts) -> bool
-    ensures { IsTrue result → All (λ l. IsSettled after.now.index.now.facts.now l.what.file l.what.sibling) gone.now.links }
+// Whether it shows so of each entry that is gone.
+fn are_entries_left(after: &After<'_>, gone: &Facts) -> bool
+    ensures { IsTrue result → All (IsEntryLeft after.now.index.now.facts.now) gone.now.entries }
 {
-    gone.links
-        .iter()
-        .all(|l| is_settled(after, l.file(), l.sibling()))
+    gone.entries.iter().all(|e| is_entry_left(after, e))
 }
 
 // Whether it shows that siblings that have come have their fellows, and so have those that are left behind.
@@ -168,16 +166,13 @@ fn are_found(after: &After<'_>, gone: &Facts, come: &Facts) -> bool
     if !are_maps_found(after, come) {
         return false;
     }
-    if !leave_links(after, gone) {
+    if !are_entries_left(after, gone) {
         return false;
     }
-    if !are_links_let_go(after, gone) {
+    if !are_links_left(after, gone) {
         return false;
     }
-    if !are_maps_let_go(after, gone) {
-        return false;
-    }
-    are_entries_settled(after, gone) && are_links_settled(after, gone)
+    are_maps_let_go(after, gone)
 }
 
 // Whether nothing of siblings is gone or has come, so that they have their fellows still.

@@ -1,11 +1,11 @@
 -- The first item that breaks a rule.
-use Rattle.std.proofs.Common.{◌≡◌, ℕ, zero, suc, ◌+◌, ◌<◌, Bool, true, false, cond, List, [], ◌∷◌, ◌++◌, length, map, take, get_or, Option, Some, None, inl, inr, refl, ap, sym, ◌∙◌, subst, arith}
+use Rattle.std.proofs.Common.{◌≡◌, ℕ, zero, suc, ◌+◌, ◌<◌, ◌≤◌, Bool, true, false, cond, List, [], ◌∷◌, ◌++◌, length, map, take, get_or, Option, Some, None, inl, inr, refl, ap, sym, ◌∙◌, subst, arith}
 use Rattle.std.specs.List.{find}
 use Rattle.std.proofs.lemmas.Option.{none-some}
 use Rattle.std.proofs.lemmas.List.Folds.{find-append}
 use Rattle.std.specs.Option.{option_or}
 use Rattle.std.specs.Prelude.{option_to_list, filter}
-use Rattle.std.proofs.lemmas.List.{take_more, map-append}
+use Rattle.std.proofs.lemmas.List.{take_more, take_all, map-append}
 use Rattle.std.proofs.lemmas.List.Elements.{filter-append}
 use Rattle.apfs_model.proofs.Searches.{found-in}
 use Rattle.view_rules.specs.Words.{IsClear, IsBroken}
@@ -55,6 +55,10 @@ next_item {X} test xs items i x r same low is none tested fails =
     let at : x ≡ get_or xs i x = is ∙ ap (λ (ys : List X). get_or ys i x) same in
     let low2 : i < length xs = subst (λ (ys : List X). i < length ys) same low in
     find_more test xs i x low2 none (ap test (sym at) ∙ (sym tested ∙ fails))
+
+-- each item failed
+pub all_clear : {X : Type 0} (test : X → Bool) (xs items : List X) (i : ℕ) → items ≡ xs → length items ≤ i → find test (take i xs) ≡ None → IsClear test xs
+all_clear {X} test xs items i same high none = none-clear test xs (ap (find test) (sym (take_all i xs (subst (λ (ys : List X). length ys ≤ i) same high))) ∙ none)
 
 noted-one : {X Y : Type 0} (p : X → Bool) (f : X → Y) (b : Bool) (x : X) → map f (cond b (x ∷ []) []) ≡ option_to_list (cond b (Some (f x)) None)
 noted-one p f true x = refl

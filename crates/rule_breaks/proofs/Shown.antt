@@ -21,7 +21,7 @@ use Rattle.view_rules.specs.Inodes.{lacks_target, has_large_stream, has_large_bo
 use Rattle.view_rules.specs.declared.fault.IdAt.{IdAt}
 use Rattle.view_rules.specs.declared.fault.NamedAt.{NamedAt}
 use Rattle.view_rules.specs.declared.fault.TreeFault.{TreeFault}
-use Rattle.view_rules.specs.declared.fault.TreeFault.TheVariants.{DupName, Hash, NoParent, NoInode, KindMismatch, DirNames, Unreached, Children, Links, SiblingLost, ExtentOrder, ExtentPlace, ExtentUncovered, LinkTarget, Stream, AttrOwner, NameHash}
+use Rattle.view_rules.specs.declared.fault.TreeFault.TheVariants.{DupName, Hash, NoInode, DirNames, Unreached, SiblingLost, ExtentOrder, ExtentPlace, ExtentUncovered, Stream, AttrOwner, NameHash}
 use Rattle.view_rules.specs.declared.profile.Profile.TheVariants.{Strict}
 use Rattle.apfs_model.specs.declared.failed.NoMemory.{NoMemory}
 use Rattle.apfs_model.proofs.BoolTests.{clash}
@@ -29,6 +29,12 @@ use Rattle.apfs_model.proofs.Searches.{found-in}
 use Rattle.rule_breaks.proofs.Finds.{none-clear, found-broken}
 use Rattle.rule_breaks.proofs.FellowLooks.{lost_none}
 use Rattle.rule_breaks.specs.declared.faults.Asked.{Asked}
+use Rattle.rule_breaks.specs.declared.faults.by_inode.InodeRule.{InodeRule}
+use Rattle.rule_breaks.specs.declared.faults.by_inode.InodeRule.TheVariants.{Home, ChildCount, LinkCount, Target, Size}
+use Rattle.rule_breaks.specs.declared.faults.entries.EntryRule.{EntryRule}
+use Rattle.rule_breaks.specs.declared.faults.entries.EntryRule.TheVariants.{Directory, File, Kind}
+use Rattle.rule_breaks.specs.ByInode as inodes
+use Rattle.rule_breaks.specs.ByEntry as entries
 use Rattle.rule_breaks.specs.Faults.{id_at, named_at, IsShown, IsFirst, either}
 
 -- where nothing is found no item breaks the rule
@@ -92,26 +98,27 @@ attribute_twice asked facts x n name at found called named is = subst (λ (y : N
 pub other_hash : (asked : Asked) (facts : Facts) (x : Fact Entry) (n : ℕ) (name : List ℕ) (at : NamedAt) → Some x ≡ find (has_other_ascii_hash facts) facts.entries → n ≡ x.id → name ≡ x.what.name → at ≡ named_at asked.view.now n name → IsShown asked facts (Hash at)
 other_hash asked facts x n name at found called named is = subst (λ (y : NamedAt). IsShown asked facts (Hash y)) (sym (is ∙ (λ i. named_at asked.view.now (called i) (named i)))) ((refl, refl), found-broken (has_other_ascii_hash facts) entry_place facts.entries x (sym found))
 
-pub no_parent : (asked : Asked) (facts : Facts) (x : Fact Entry) (n : ℕ) (name : List ℕ) (at : NamedAt) → Some x ≡ find (lacks_parent facts) facts.entries → n ≡ x.id → name ≡ x.what.name → at ≡ named_at asked.view.now n name → IsShown asked facts (NoParent at)
-no_parent asked facts x n name at found called named is = subst (λ (y : NamedAt). IsShown asked facts (NoParent y)) (sym (is ∙ (λ i. named_at asked.view.now (called i) (named i)))) ((refl, refl), found-broken (lacks_parent facts) entry_place facts.entries x (sym found))
+entry-breach : (asked : Asked) (facts : Facts) (rule : EntryRule) (x : Fact Entry) → Some x ≡ find (entries.is_broken facts rule) facts.entries → IsShown asked facts (entries.fault rule (named_at asked.view.now x.id x.what.name))
+entry-breach asked facts Directory x found = ((refl, refl), found-broken (lacks_parent facts) entry_place facts.entries x (sym found))
+entry-breach asked facts File x found = ((refl, refl), found-broken (lacks_inode facts) entry_place facts.entries x (sym found))
+entry-breach asked facts Kind x found = ((refl, refl), found-broken (has_other_kind facts) entry_place facts.entries x (sym found))
 
-pub other_kind : (asked : Asked) (facts : Facts) (x : Fact Entry) (n : ℕ) (name : List ℕ) (at : NamedAt) → Some x ≡ find (has_other_kind facts) facts.entries → n ≡ x.id → name ≡ x.what.name → at ≡ named_at asked.view.now n name → IsShown asked facts (KindMismatch at)
-other_kind asked facts x n name at found called named is = subst (λ (y : NamedAt). IsShown asked facts (KindMismatch y)) (sym (is ∙ (λ i. named_at asked.view.now (called i) (named i)))) ((refl, refl), found-broken (has_other_kind facts) entry_place facts.entries x (sym found))
-
-pub no_inode : (asked : Asked) (facts : Facts) (x : Fact Entry) (n : ℕ) (name : List ℕ) (at : NamedAt) → Some x ≡ find (lacks_inode facts) facts.entries → n ≡ x.id → name ≡ x.what.name → at ≡ named_at asked.view.now n name → IsShown asked facts (NoInode at.slot at.xid at.id (Some at.name))
-no_inode asked facts x n name at found called named is = subst (λ (y : NamedAt). IsShown asked facts (NoInode y.slot y.xid y.id (Some y.name))) (sym (is ∙ (λ i. named_at asked.view.now (called i) (named i)))) ((refl, refl), found-broken (lacks_inode facts) entry_place facts.entries x (sym found))
+pub entry : (asked : Asked) (facts : Facts) (rule : EntryRule) (x : Fact Entry) (n : ℕ) (name : List ℕ) (at : NamedAt) (fault : TreeFault) → Some x ≡ find (entries.is_broken facts rule) facts.entries → n ≡ x.id → name ≡ x.what.name → at ≡ named_at asked.view.now n name
+    → fault ≡ entries.fault rule at → IsShown asked facts fault
+entry asked facts rule x n name at fault found called named is same = subst (λ (y : TreeFault). IsShown asked facts y) (sym (same ∙ ap (entries.fault rule) (is ∙ (λ i. named_at asked.view.now (called i) (named i))))) (entry-breach asked facts rule x found)
 
 pub name_hash : (asked : Asked) (facts : Facts) (x : Fact Entry) (n : ℕ) (name : List ℕ) (at : NamedAt) → Some x ≡ find (has_other_name_hash facts) facts.entries → asked.profile ≡ Strict → n ≡ x.id → name ≡ x.what.name → at ≡ named_at asked.view.now n name → IsShown asked facts (NameHash at)
 name_hash asked facts x n name at found strict called named is = subst (λ (y : NamedAt). IsShown asked facts (NameHash y)) (sym (is ∙ (λ i. named_at asked.view.now (called i) (named i)))) ((refl, refl), strict, found-broken (has_other_name_hash facts) entry_place facts.entries x (sym found))
 
-pub misnamed : (asked : Asked) (facts : Facts) (x : Fact Inode) (n : ℕ) (at : IdAt) → Some x ≡ find (is_misnamed facts) facts.inodes → n ≡ x.id → at ≡ id_at asked.view.now n → IsShown asked facts (DirNames at)
-misnamed asked facts x n at found called is = subst (λ (y : IdAt). IsShown asked facts (DirNames y)) (sym (is ∙ ap (id_at asked.view.now) called)) ((refl, refl), inl (found-broken (is_misnamed facts) id_of_fact facts.inodes x (sym found)))
+inode-breach : (asked : Asked) (facts : Facts) (rule : InodeRule) (x : Fact Inode) → Some x ≡ find (inodes.is_broken facts rule) facts.inodes → IsShown asked facts (inodes.fault rule (id_at asked.view.now x.id))
+inode-breach asked facts Home x found = ((refl, refl), inl (found-broken (is_misnamed facts) id_of_fact facts.inodes x (sym found)))
+inode-breach asked facts ChildCount x found = ((refl, refl), found-broken (has_other_children facts) id_of_fact facts.inodes x (sym found))
+inode-breach asked facts LinkCount x found = ((refl, refl), found-broken (has_other_links facts) id_of_fact facts.inodes x (sym found))
+inode-breach asked facts Target x found = ((refl, refl), found-broken (lacks_target facts) id_of_fact facts.inodes x (sym found))
+inode-breach asked facts Size x found = ((refl, refl), inl (found-broken has_large_stream id_of_fact facts.inodes x (sym found)))
 
-pub children : (asked : Asked) (facts : Facts) (x : Fact Inode) (n : ℕ) (at : IdAt) → Some x ≡ find (has_other_children facts) facts.inodes → n ≡ x.id → at ≡ id_at asked.view.now n → IsShown asked facts (Children at)
-children asked facts x n at found called is = subst (λ (y : IdAt). IsShown asked facts (Children y)) (sym (is ∙ ap (id_at asked.view.now) called)) ((refl, refl), found-broken (has_other_children facts) id_of_fact facts.inodes x (sym found))
-
-pub links : (asked : Asked) (facts : Facts) (x : Fact Inode) (n : ℕ) (at : IdAt) → Some x ≡ find (has_other_links facts) facts.inodes → n ≡ x.id → at ≡ id_at asked.view.now n → IsShown asked facts (Links at)
-links asked facts x n at found called is = subst (λ (y : IdAt). IsShown asked facts (Links y)) (sym (is ∙ ap (id_at asked.view.now) called)) ((refl, refl), found-broken (has_other_links facts) id_of_fact facts.inodes x (sym found))
+pub inode : (asked : Asked) (facts : Facts) (rule : InodeRule) (x : Fact Inode) (n : ℕ) (at : IdAt) (fault : TreeFault) → Some x ≡ find (inodes.is_broken facts rule) facts.inodes → n ≡ x.id → at ≡ id_at asked.view.now n → fault ≡ inodes.fault rule at → IsShown asked facts fault
+inode asked facts rule x n at fault found called is same = subst (λ (y : TreeFault). IsShown asked facts y) (sym (same ∙ ap (inodes.fault rule) (is ∙ ap (id_at asked.view.now) called))) (inode-breach asked facts rule x found)
 
 pub lost_link : (asked : Asked) (facts : Facts) (x : Fact Link) (n : ℕ) (at : IdAt) → Some x ≡ find (is_link_lost facts) facts.links → n ≡ x.what.sibling → at ≡ id_at asked.view.now n → IsShown asked facts (SiblingLost at)
 lost_link asked facts x n at found called is = subst (λ (y : IdAt). IsShown asked facts (SiblingLost y)) (sym (is ∙ ap (id_at asked.view.now) called)) ((refl, refl), inr (inl (found-broken (is_link_lost facts) link_place facts.links x (sym found))))
@@ -127,12 +134,6 @@ place asked facts x n at found called is = subst (λ (y : IdAt). IsShown asked f
 
 pub cover : (asked : Asked) (facts : Facts) (x : Fact FileExt) (n : ℕ) (at : IdAt) → Some x ≡ find (is_uncovered asked.site.now.block_size asked.ranges.now) facts.extents → n ≡ x.id → at ≡ id_at asked.view.now n → IsShown asked facts (ExtentUncovered at)
 cover asked facts x n at found called is = subst (λ (y : IdAt). IsShown asked facts (ExtentUncovered y)) (sym (is ∙ ap (id_at asked.view.now) called)) ((refl, refl), found-broken (is_uncovered asked.site.now.block_size asked.ranges.now) id_of_fact facts.extents x (sym found))
-
-pub target : (asked : Asked) (facts : Facts) (x : Fact Inode) (n : ℕ) (at : IdAt) → Some x ≡ find (lacks_target facts) facts.inodes → n ≡ x.id → at ≡ id_at asked.view.now n → IsShown asked facts (LinkTarget at)
-target asked facts x n at found called is = subst (λ (y : IdAt). IsShown asked facts (LinkTarget y)) (sym (is ∙ ap (id_at asked.view.now) called)) ((refl, refl), found-broken (lacks_target facts) id_of_fact facts.inodes x (sym found))
-
-pub stream : (asked : Asked) (facts : Facts) (x : Fact Inode) (n : ℕ) (at : IdAt) → Some x ≡ find has_large_stream facts.inodes → n ≡ x.id → at ≡ id_at asked.view.now n → IsShown asked facts (Stream at)
-stream asked facts x n at found called is = subst (λ (y : IdAt). IsShown asked facts (Stream y)) (sym (is ∙ ap (id_at asked.view.now) called)) ((refl, refl), inl (found-broken has_large_stream id_of_fact facts.inodes x (sym found)))
 
 pub body : (asked : Asked) (facts : Facts) (x : Fact Attribute) (n : ℕ) (at : IdAt) → Some x ≡ find has_large_body facts.attributes → n ≡ x.id → at ≡ id_at asked.view.now n → IsShown asked facts (Stream at)
 body asked facts x n at found called is = subst (λ (y : IdAt). IsShown asked facts (Stream y)) (sym (is ∙ ap (id_at asked.view.now) called)) ((refl, refl), inr (found-broken has_large_body id_of_fact facts.attributes x (sym found)))

@@ -1,14 +1,14 @@
 -- Where no entry is lost, each has its directory, its file and its kind; where no file has two entries, each has its mark.
-use Rattle.std.proofs.Common.{◌≡◌, ◌≤◌, ℕ, Bool, true, false, cond, List, [], ◌∷◌, Option, Some, None, inl, inr, refl, ap, ◌∙◌, arith}
+use Rattle.std.proofs.Common.{◌≡◌, ◌≤◌, ℕ, Bool, true, false, List, [], ◌∷◌, Option, Some, None, inl, inr, refl, ap, ◌∙◌, arith}
 use Rattle.std.specs.Prelude.{not, ◌&&◌, ◌||◌, ◌==◌, nat_lt, is_some, is_none}
-use Rattle.std.specs.List.{find, list_any}
+use Rattle.std.specs.List.{list_any}
 use Rattle.apfs_model.proofs.BoolTests.{never-true, below-from}
 use Rattle.apfs_model.specs.Lists.{In, passes}
 use Rattle.fs_record.specs.Inodes.{Inode, inode_kind}
 use Rattle.view_rules.specs.Words.{IsClear}
 use Rattle.view_rules.specs.Facts.{Facts, inode_at, has_directory, does_count, entry_count}
 use Rattle.view_rules.specs.Entries.{lacks_parent, lacks_inode, has_other_kind, HasParents, HasFiles, HasKinds}
-use Rattle.view_rules.specs.Siblings.{is_unmarked}
+use Rattle.view_rules.specs.Siblings.{is_unmarked, HasMarks}
 use Rattle.rule_index.specs.Lost.{is_lost}
 
 has-parent : (c d t : Bool) → (c && not (d && t)) ≡ false → (c && not d) ≡ false
@@ -58,17 +58,12 @@ whole facts none =
       ),
     )
 
-find-none : {X : Type 0} (test : X → Bool) → ((x : X) → test x ≡ false) → (xs : List X) → find test xs ≡ None
-find-none test fails [] = refl
-find-none {X} test fails (x ∷ xs) = ap (λ b. cond b (Some x) (find test xs)) (fails x) ∙ find-none test fails xs
-
 -- where no file has two entries each has its mark
-pub none-unmarked : (facts : Facts) → ((id : ℕ) → entry_count facts id ≤ 1) → find (is_unmarked facts) facts.entries ≡ None
+pub all-marked : (facts : Facts) → ((id : ℕ) → entry_count facts id ≤ 1) → HasMarks facts
 unfolding is_unmarked
-none-unmarked facts single =
-    find-none (is_unmarked facts) (λ e.
+all-marked facts single e listed =
     let few : nat_lt 1 (entry_count facts e.what.file_id) ≡ false = never-true (nat_lt 1 (entry_count facts e.what.file_id)) (λ h. let above = below-from 1 (entry_count facts e.what.file_id) h in let most = single e.what.file_id in omega (arith, above, most)) in
-    ap (λ b. does_count e && (is_none e.what.sibling && b)) few ∙ nothing (does_count e) (is_none e.what.sibling)) facts.entries
+    ap (λ b. does_count e && (is_none e.what.sibling && b)) few ∙ nothing (does_count e) (is_none e.what.sibling)
   where
     nothing : (a b : Bool) → (a && (b && false)) ≡ false
     nothing true true = refl

@@ -1,6 +1,5 @@
 // The rules on directories: each has one entry, in the directory of its parent, and the root has none.
-ghost use Rattle.std.specs.Prelude.{◌≡◌, ◌==◌, ◌&&◌, find};
-ghost use Rattle.std.specs.Option.{option_copied};
+ghost use Rattle.std.specs.Prelude.{◌≡◌, ◌==◌, ◌&&◌};
 ghost use Rattle.view_rules.specs.Facts.{entry_count, entry_count_in};
 ghost use Rattle.view_rules.specs.Directories as spec;
 
@@ -38,12 +37,4 @@ pub fn is_misnamed(index: &Index<'_>, f: &InodeFact) -> bool
     ensures { result ≡ spec.is_misnamed index.now.facts.now f.now }
 {
     is_user_directory(f) && !is_at_home(index, f)
-}
-
-/// The first directory of 16 or more that hasn't exactly one entry, in the directory of its parent.
-pub fn misnamed<'a>(index: &Index<'a>) -> Option<&'a InodeFact>
-    ensures { option_copied result ≡ find (spec.is_misnamed index.now.facts.now) index.now.facts.now.inodes }
-{
-    let facts = index.facts;
-    facts.inodes.iter().find(|f| is_misnamed(index, f))
 }

@@ -1,6 +1,5 @@
 // The rules on entries: each has its directory and its file, of the same kind, and the right hash of an ASCII name.
-ghost use Rattle.std.specs.Prelude.{◌≡◌, ◌==◌, not, find, true};
-ghost use Rattle.std.specs.Option.{option_copied};
+ghost use Rattle.std.specs.Prelude.{◌≡◌, ◌==◌, not, true};
 ghost use Rattle.apfs_model.specs.Lists.{passes};
 ghost use Rattle.view_rules.specs.Entries as spec;
 
@@ -47,30 +46,6 @@ pub fn are_whole(index: &Index<'_>) -> bool
     ensures { result ≡ true → spec.HasParents index.now.facts.now × (spec.HasFiles index.now.facts.now × spec.HasKinds index.now.facts.now) }
 {
     index.has_whole_entries()
-}
-
-/// The first entry that counts in what is no directory.
-pub fn lacking_parent<'a>(index: &Index<'a>) -> Option<&'a EntryFact>
-    ensures { option_copied result ≡ find (spec.lacks_parent index.now.facts.now) index.now.facts.now.entries }
-{
-    let facts = index.facts;
-    facts.entries.iter().find(|e| lacks_parent(index, e))
-}
-
-/// The first entry that counts of a file without an inode.
-pub fn lacking_inode<'a>(index: &Index<'a>) -> Option<&'a EntryFact>
-    ensures { option_copied result ≡ find (spec.lacks_inode index.now.facts.now) index.now.facts.now.entries }
-{
-    let facts = index.facts;
-    facts.entries.iter().find(|e| lacks_inode(index, e))
-}
-
-/// The first entry that counts of another kind than the inode of its file.
-pub fn other_kind<'a>(index: &Index<'a>) -> Option<&'a EntryFact>
-    ensures { option_copied result ≡ find (spec.has_other_kind index.now.facts.now) index.now.facts.now.entries }
-{
-    let facts = index.facts;
-    facts.entries.iter().find(|e| has_other_kind(index, e))
 }
 
 /// Whether the root is there, and a directory.

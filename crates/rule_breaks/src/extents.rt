@@ -1,6 +1,5 @@
 // The rules on the places of extents, and the extents of a view.
-ghost use Rattle.std.specs.Prelude.{◌≡◌, ◌<◌, find, IfOk};
-ghost use Rattle.std.specs.Option.{option_copied};
+ghost use Rattle.std.specs.Prelude.{◌≡◌, ◌<◌, IfOk};
 ghost use Rattle.ext_ref.specs.Cover.{is_covered};
 ghost use Rattle.ext_ref.specs.Spans.{IsCoverOf};
 ghost use Rattle.fs_record.specs.StreamExtents as stream;
@@ -41,17 +40,6 @@ pub fn is_misplaced(block_size: u32, blocks: u64, f: &ExtentFact) -> bool
     !is_placed(block_size, blocks, f.extent())
 }
 
-/// The first extent that leaves the container.
-pub fn misplaced(facts: &Facts, block_size: u32, blocks: u64) -> Option<&ExtentFact>
-    requires { 0 < block_size }
-    ensures { option_copied result ≡ find (spec.is_misplaced block_size blocks) facts.now.extents }
-{
-    facts
-        .extents
-        .iter()
-        .find(|f| is_misplaced(block_size, blocks, f))
-}
-
 // Whether some ranges cover a range of blocks.
 #[tactic(auto, using(crate::proofs::Covered::covers_same))]
 fn covers(cover: &Cover, ranges: &[NewRange], first: u64, length: u64) -> bool
@@ -70,37 +58,6 @@ pub fn is_uncovered(block_size: u32, cover: &Cover, ranges: &[NewRange], f: &Ext
 {
     let extent = f.extent();
     extent.block != 0 && !covers(cover, ranges, extent.block, extent.blocks(block_size))
-}
-
-// The first extent that isn't covered.
-fn uncovered_by<'a>(
-    facts: &'a Facts,
-    block_size: u32,
-    cover: &Cover,
-    ranges: &[NewRange],
-) -> Option<&'a ExtentFact>
-    requires size { 0 < block_size }
-    requires cover { IsCoverOf ranges.now cover.now }
-    ensures { option_copied result ≡ find (spec.is_uncovered block_size ranges.now) facts.now.extents }
-{
-    facts
-        .extents
-        .iter()
-        .find(|f| is_uncovered(block_size, cover, ranges, f))
-}
-
-/// The first extent that is no hole and that the ranges don't cover.
-pub fn uncovered<'a>(
-    alloc: Global,
-    facts: &'a Facts,
-    block_size: u32,
-    ranges: &[NewRange],
-) -> Result<Option<&'a ExtentFact>, NoMemory>
-    requires { 0 < block_size }
-    ensures { IfOk result (λ first. option_copied first ≡ find (spec.is_uncovered block_size ranges.now) facts.now.extents) }
-{
-    let cover = Cover::of(alloc, ranges)?;
-    Ok(uncovered_by(facts, block_size, &cover, ranges))
 }
 
 // An extent after its stream's id.

@@ -2,6 +2,7 @@
 ghost use Rattle.std.specs.Prelude.{◌≡◌, IfOk};
 ghost use Rattle.rule_breaks.specs.Faults as spec;
 
+mod by_inode;
 pub mod counts;
 pub mod directories;
 pub mod entries;

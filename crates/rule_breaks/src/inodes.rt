@@ -1,10 +1,9 @@
 // The rules on the targets of symbolic links, the sizes of streams, and the owners of attributes.
-ghost use Rattle.std.specs.Prelude.{◌≡◌, find};
-ghost use Rattle.std.specs.Option.{option_copied};
+ghost use Rattle.std.specs.Prelude.{◌≡◌};
 ghost use Rattle.view_rules.specs.Inodes as spec;
 
 use rule_index::Index;
-use view_facts::{AttributeFact, Facts, InodeFact};
+use view_facts::{AttributeFact, InodeFact};
 
 /// The least size of a stream that is too large, in bytes.
 const LARGE_SIZE: u64 = 0x8000_0000_0000_0000;
@@ -42,34 +41,4 @@ pub fn lacks_owner(index: &Index<'_>, a: &AttributeFact) -> bool
     ensures { result ≡ spec.lacks_owner index.now.facts.now a.now }
 {
     !index.has_inode(a.id())
-}
-
-/// The first symbolic link without its target.
-pub fn lacking_target<'a>(index: &Index<'a>) -> Option<&'a InodeFact>
-    ensures { option_copied result ≡ find (spec.lacks_target index.now.facts.now) index.now.facts.now.inodes }
-{
-    let facts = index.facts;
-    facts.inodes.iter().find(|f| lacks_target(index, f))
-}
-
-/// The first inode whose stream is too large.
-pub fn large_stream(facts: &Facts) -> Option<&InodeFact>
-    ensures { option_copied result ≡ find spec.has_large_stream facts.now.inodes }
-{
-    facts.inodes.iter().find(|f| has_large_stream(f))
-}
-
-/// The first attribute whose stream is too large.
-pub fn large_body(facts: &Facts) -> Option<&AttributeFact>
-    ensures { option_copied result ≡ find spec.has_large_body facts.now.attributes }
-{
-    facts.attributes.iter().find(|a| has_large_body(a))
-}
-
-/// The first attribute of a file without an inode.
-pub fn lacking_owner<'a>(index: &Index<'a>) -> Option<&'a AttributeFact>
-    ensures { option_copied result ≡ find (spec.lacks_owner index.now.facts.now) index.now.facts.now.attributes }
-{
-    let facts = index.facts;
-    facts.attributes.iter().find(|a| lacks_owner(index, a))
 }

@@ -1,6 +1,5 @@
 // The rules on the numbers of a directory's children and of a file's links.
-ghost use Rattle.std.specs.Prelude.{◌≡◌, ℤ, pos, not, find};
-ghost use Rattle.std.specs.Option.{option_copied};
+ghost use Rattle.std.specs.Prelude.{◌≡◌, ℤ, pos, not};
 ghost use Rattle.std.specs.Ordering.{int_eq};
 ghost use Rattle.view_rules.specs.Counts as spec;
 ghost use Rattle.view_rules.specs.Facts as rules;
@@ -45,20 +44,4 @@ pub fn has_other_links(index: &Index<'_>, f: &InodeFact) -> bool
 {
     let count = index.entry_count(f.id());
     is_linked_file(index, f, count) && is_other(f.links(), count)
-}
-
-/// The first directory with another number of children.
-pub fn other_children<'a>(index: &Index<'a>) -> Option<&'a InodeFact>
-    ensures { option_copied result ≡ find (spec.has_other_children index.now.facts.now) index.now.facts.now.inodes }
-{
-    let facts = index.facts;
-    facts.inodes.iter().find(|f| has_other_children(index, f))
-}
-
-/// The first file with another number of links.
-pub fn other_links<'a>(index: &Index<'a>) -> Option<&'a InodeFact>
-    ensures { option_copied result ≡ find (spec.has_other_links index.now.facts.now) index.now.facts.now.inodes }
-{
-    let facts = index.facts;
-    facts.inodes.iter().find(|f| has_other_links(index, f))
 }

@@ -1,6 +1,5 @@
 // The rules on the hashes of names, and on the marks of files with several names.
-ghost use Rattle.std.specs.Prelude.{◌≡◌, find, IfOk};
-ghost use Rattle.std.specs.Option.{option_copied};
+ghost use Rattle.std.specs.Prelude.{◌≡◌, IfOk};
 ghost use Rattle.view_rules.specs.Names as spec;
 ghost use Rattle.view_rules.specs.Siblings as siblings;
 
@@ -20,16 +19,6 @@ pub fn has_other_ascii_hash(facts: &Facts, e: &EntryFact) -> bool
         return false;
     }
     facts.names.are_hashed() && ascii_hash(facts.names, e.name().as_bytes()) != e.hash()
-}
-
-/// The first entry whose name is ASCII and whose key has another hash.
-pub fn other_ascii_hash(facts: &Facts) -> Option<&EntryFact>
-    ensures { option_copied result ≡ find (spec.has_other_ascii_hash facts.now) facts.now.entries }
-{
-    facts
-        .entries
-        .iter()
-        .find(|e| has_other_ascii_hash(facts, e))
 }
 
 /// Whether an entry's name isn't ASCII, and its key has another hash.
@@ -53,15 +42,4 @@ pub fn is_unmarked(index: &Index<'_>, e: &EntryFact) -> bool
     ensures { result ≡ siblings.is_unmarked index.now.facts.now e.now }
 {
     does_count(e) && e.sibling().is_none() && index.entry_count(e.file_id()) > 1
-}
-
-/// The first entry without a sibling's id of a file with two entries or more.
-pub fn unmarked<'a>(index: &Index<'a>) -> Option<&'a EntryFact>
-    ensures { option_copied result ≡ find (siblings.is_unmarked index.now.facts.now) index.now.facts.now.entries }
-{
-    if index.has_single_entries() {
-        return None;
-    }
-    let facts = index.facts;
-    facts.entries.iter().find(|e| is_unmarked(index, e))
 }

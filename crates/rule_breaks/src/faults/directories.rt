@@ -3,21 +3,11 @@ ghost use Rattle.std.specs.Prelude.{◌≡◌, false};
 ghost use Rattle.view_rules.specs.Directories as rules;
 ghost use Rattle.rule_breaks.specs.Faults as spec;
 
+use super::by_inode::InodeRule;
 use super::{Asked, id_at};
 use crate::directories;
 use rule_index::Index;
 use view_rules::TreeFault;
-
-// A directory that hasn't exactly one entry, in the directory of its parent.
-#[tactic(auto, using(crate::proofs::Shown::misnamed, crate::proofs::Shown::none_clear))]
-fn misnamed(asked: &Asked<'_>, index: &Index<'_>) -> Option<TreeFault>
-    ensures { spec.IsFirst asked.now index.now.facts.now (rules.HasDirNames index.now.facts.now) result }
-{
-    match directories::misnamed(index) {
-        Some(f) => Some(TreeFault::DirNames(id_at(asked.view, f.id()))),
-        None => None,
-    }
-}
 
 // A root with an entry.
 #[tactic(auto, using(crate::proofs::Shown::root_name))]
@@ -34,6 +24,6 @@ fn named_root(asked: &Asked<'_>, index: &Index<'_>) -> Option<TreeFault>
 pub fn fault(asked: &Asked<'_>, index: &Index<'_>) -> Option<TreeFault>
     ensures { spec.IsFirst asked.now index.now.facts.now (rules.HasDirNames index.now.facts.now × (rules.is_root_named index.now.facts.now ≡ false)) result }
 {
-    let directory = misnamed(asked, index);
+    let directory = InodeRule::Home.first(asked, index);
     directory.or(named_root(asked, index))
 }

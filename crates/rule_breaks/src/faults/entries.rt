@@ -1,6 +1,8 @@
 // Faults of entries without their directory or their file, or of another kind; and of the root.
 ghost use Rattle.std.specs.Prelude.{◌≡◌, true, IfOk};
+ghost use Rattle.view_rules.specs.Words.{IsClear};
 ghost use Rattle.view_rules.specs.Entries as rules;
+ghost use Rattle.rule_breaks.specs.ByEntry as by_entry;
 ghost use Rattle.rule_breaks.specs.Faults as spec;
 
 use super::{Asked, either, named_at};
@@ -8,46 +10,64 @@ use crate::entries;
 use blk_source::NoMemory;
 use rule_index::Index;
 use std::alloc::Global;
-use view_rules::TreeFault;
+use view_facts::EntryFact;
+use view_rules::{NamedAt, TreeFault};
 
-// An entry in what is no directory.
-#[tactic(auto, using(crate::proofs::Shown::no_parent, crate::proofs::Shown::none_clear))]
-fn no_parent(
-    alloc: Global,
-    asked: &Asked<'_>,
-    index: &Index<'_>,
-) -> Result<Option<TreeFault>, NoMemory>
-    ensures { IfOk result (spec.IsFirst asked.now index.now.facts.now (rules.HasParents index.now.facts.now)) }
-{
-    match entries::lacking_parent(index) {
-        Some(e) => {
-            let at = named_at(alloc, asked.view, e.id(), e.name())?;
-            Ok(Some(TreeFault::NoParent(at)))
-        }
-        None => Ok(None),
-    }
+// A rule on each entry.
+enum EntryRule {
+    // It stands in a directory.
+    Directory,
+    // Its file has an inode.
+    File,
+    // It has the kind of that inode.
+    Kind,
 }
 
-// An entry of a file without an inode.
-#[tactic(auto, using(crate::proofs::Shown::no_inode, crate::proofs::Shown::none_clear))]
-fn no_inode(
-    alloc: Global,
-    asked: &Asked<'_>,
-    index: &Index<'_>,
-) -> Result<Option<TreeFault>, NoMemory>
-    ensures { IfOk result (spec.IsFirst asked.now index.now.facts.now (rules.HasFiles index.now.facts.now)) }
-{
-    match entries::lacking_inode(index) {
-        Some(e) => {
-            let at = named_at(alloc, asked.view, e.id(), e.name())?;
-            Ok(Some(TreeFault::NoInode {
+impl EntryRule {
+    // Whether an entry breaks the rule.
+    fn is_broken(&self, index: &Index<'_>, e: &EntryFact) -> bool
+        ensures { result ≡ by_entry.is_broken index.now.facts.now self.now e.now }
+    {
+        match self {
+            EntryRule::Directory => entries::lacks_parent(index, e),
+            EntryRule::File => entries::lacks_inode(index, e),
+            EntryRule::Kind => entries::has_other_kind(index, e),
+        }
+    }
+
+    // The fault of an entry that breaks the rule.
+    fn fault(&self, at: NamedAt) -> TreeFault
+        ensures { result ≡ by_entry.fault self.now at }
+    {
+        match self {
+            EntryRule::Directory => TreeFault::NoParent(at),
+            EntryRule::File => TreeFault::NoInode {
                 slot: at.slot,
                 xid: at.xid,
                 id: at.id,
                 name: Some(at.name),
-            }))
+            },
+            EntryRule::Kind => TreeFault::KindMismatch(at),
         }
-        None => Ok(None),
+    }
+
+    // The fault of the first entry that breaks the rule.
+    fn first(
+        &self,
+        alloc: Global,
+        asked: &Asked<'_>,
+        index: &Index<'_>,
+    ) -> Result<Option<TreeFault>, NoMemory>
+        ensures { IfOk result (spec.IsFirst asked.now index.now.facts.now (IsClear (by_entry.is_broken index.now.facts.now self.now) index.now.facts.now.entries)) }
+    {
+        let facts = index.facts;
+        for e in &facts.entries {
+            if self.is_broken(index, e) {
+                let at = named_at(alloc, asked.view, e.id(), e.name())?;
+                return Ok(Some(self.fault(at)));
+            }
+        }
+        Ok(None)
     }
 }
 
@@ -67,24 +87,6 @@ fn no_root(asked: &Asked<'_>, index: &Index<'_>) -> Option<TreeFault>
     })
 }
 
-// An entry of another kind than the inode of its file.
-#[tactic(auto, using(crate::proofs::Shown::other_kind, crate::proofs::Shown::none_clear))]
-fn other_kind(
-    alloc: Global,
-    asked: &Asked<'_>,
-    index: &Index<'_>,
-) -> Result<Option<TreeFault>, NoMemory>
-    ensures { IfOk result (spec.IsFirst asked.now index.now.facts.now (rules.HasKinds index.now.facts.now)) }
-{
-    match entries::other_kind(index) {
-        Some(e) => {
-            let at = named_at(alloc, asked.view, e.id(), e.name())?;
-            Ok(Some(TreeFault::KindMismatch(at)))
-        }
-        None => Ok(None),
-    }
-}
-
 // An entry in what is no directory, or of a file without an inode.
 fn lacking(
     alloc: Global,
@@ -93,8 +95,8 @@ fn lacking(
 ) -> Result<Option<TreeFault>, NoMemory>
     ensures { IfOk result (spec.IsFirst asked.now index.now.facts.now (rules.HasParents index.now.facts.now × rules.HasFiles index.now.facts.now)) }
 {
-    let parent = no_parent(alloc, asked, index)?;
-    either(Ok(parent), no_inode(alloc, asked, index))
+    let parent = EntryRule::Directory.first(alloc, asked, index)?;
+    either(Ok(parent), EntryRule::File.first(alloc, asked, index))
 }
 
 // A fault of the root, or an entry of another kind.
@@ -106,7 +108,7 @@ fn root_or_kind(
     ensures { IfOk result (spec.IsFirst asked.now index.now.facts.now ((rules.has_root index.now.facts.now ≡ true) × rules.HasKinds index.now.facts.now)) }
 {
     let root = no_root(asked, index);
-    either(Ok(root), other_kind(alloc, asked, index))
+    either(Ok(root), EntryRule::Kind.first(alloc, asked, index))
 }
 
 /// A fault of an entry or of the root, where one is there.

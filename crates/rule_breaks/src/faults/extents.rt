@@ -1,12 +1,14 @@
 // Faults of extents: their order, their place in the container, and the new ranges that cover them.
 ghost use Rattle.std.specs.Prelude.{◌<◌, IfOk};
+ghost use Rattle.ext_ref.specs.Spans.{IsCoverOf};
 ghost use Rattle.view_rules.specs.Extents as rules;
 ghost use Rattle.rule_breaks.specs.Faults as spec;
 
 use super::{Asked, either, id_at};
-use crate::extents::{misplaced, uncovered};
+use crate::extents::{is_misplaced, is_uncovered};
 use crate::order::disordered;
 use blk_source::NoMemory;
+use ext_ref::Cover;
 use std::alloc::Global;
 use view_facts::Facts;
 use view_rules::TreeFault;
@@ -24,28 +26,39 @@ fn order(alloc: Global, asked: &Asked<'_>, facts: &Facts) -> Result<Option<TreeF
 }
 
 // An extent that leaves the container.
-#[tactic(auto, using(crate::proofs::Shown::place, crate::proofs::Shown::none_clear))]
 fn place(asked: &Asked<'_>, facts: &Facts) -> Option<TreeFault>
     requires { 0 < asked.now.site.now.block_size }
     ensures { spec.IsFirst asked.now facts.now (rules.HasExtentPlaces asked.now.site.now.block_size asked.now.site.now.blocks facts.now) result }
 {
-    match misplaced(facts, asked.site.block_size, asked.site.blocks) {
-        Some(f) => Some(TreeFault::ExtentPlace(id_at(asked.view, f.id()))),
-        None => None,
+    for f in &facts.extents {
+        if is_misplaced(asked.site.block_size, asked.site.blocks, f) {
+            return Some(TreeFault::ExtentPlace(id_at(asked.view, f.id())));
+        }
     }
+    None
 }
 
 // An extent that the new ranges don't cover.
-#[tactic(auto, using(crate::proofs::Shown::cover, crate::proofs::Shown::none_clear))]
+fn uncovered(asked: &Asked<'_>, facts: &Facts, cover: &Cover) -> Option<TreeFault>
+    requires size { 0 < asked.now.site.now.block_size }
+    requires cover { IsCoverOf asked.now.ranges.now cover.now }
+    ensures { spec.IsFirst asked.now facts.now (rules.HasCover asked.now.site.now.block_size asked.now.ranges.now facts.now) result }
+{
+    for f in &facts.extents {
+        if is_uncovered(asked.site.block_size, cover, asked.ranges, f) {
+            return Some(TreeFault::ExtentUncovered(id_at(asked.view, f.id())));
+        }
+    }
+    None
+}
+
+// The same, by a cover that is made of them.
 fn cover(alloc: Global, asked: &Asked<'_>, facts: &Facts) -> Result<Option<TreeFault>, NoMemory>
     requires { 0 < asked.now.site.now.block_size }
     ensures { IfOk result (spec.IsFirst asked.now facts.now (rules.HasCover asked.now.site.now.block_size asked.now.ranges.now facts.now)) }
 {
-    let first = uncovered(alloc, facts, asked.site.block_size, asked.ranges)?;
-    match first {
-        Some(f) => Ok(Some(TreeFault::ExtentUncovered(id_at(asked.view, f.id())))),
-        None => Ok(None),
-    }
+    let cover = Cover::of(alloc, asked.ranges)?;
+    Ok(uncovered(asked, facts, &cover))
 }
 
 /// A fault of an extent, where one is there.

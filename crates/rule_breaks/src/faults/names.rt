@@ -4,7 +4,7 @@ ghost use Rattle.view_rules.specs.Names as rules;
 ghost use Rattle.rule_breaks.specs.Faults as spec;
 
 use super::{Asked, either, named_at};
-use crate::names::other_ascii_hash;
+use crate::names::has_other_ascii_hash;
 use crate::repeats::{repeated_attribute, repeated_entry};
 use blk_source::NoMemory;
 use std::alloc::Global;
@@ -52,7 +52,6 @@ fn attribute_twice(
 }
 
 // An ASCII name whose key has another hash.
-#[tactic(auto, using(crate::proofs::Shown::other_hash, crate::proofs::Shown::none_clear))]
 fn other_hash(
     alloc: Global,
     asked: &Asked<'_>,
@@ -60,13 +59,13 @@ fn other_hash(
 ) -> Result<Option<TreeFault>, NoMemory>
     ensures { IfOk result (spec.IsFirst asked.now facts.now (rules.HasAsciiHashes facts.now)) }
 {
-    match other_ascii_hash(facts) {
-        Some(e) => {
+    for e in &facts.entries {
+        if has_other_ascii_hash(facts, e) {
             let at = named_at(alloc, asked.view, e.id(), e.name())?;
-            Ok(Some(TreeFault::Hash(at)))
+            return Ok(Some(TreeFault::Hash(at)));
         }
-        None => Ok(None),
     }
+    Ok(None)
 }
 
 // A name that is twice, in a directory or among the attributes of a file.

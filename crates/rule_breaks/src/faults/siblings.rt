@@ -5,8 +5,9 @@ ghost use Rattle.view_rules.specs.declared.fault.TreeFault.TheVariants.{SiblingL
 ghost use Rattle.rule_breaks.specs.Faults as spec;
 
 use super::{Asked, either, id_at};
+use crate::fellows;
 use crate::fellows::Fellows;
-use crate::{fellows, names};
+use crate::names::is_unmarked;
 use blk_source::NoMemory;
 use rule_index::Index;
 use rule_index::twins::are_together;
@@ -68,14 +69,19 @@ fn lost_map(
 }
 
 // An entry without a sibling's id, of a file with two entries or more.
-#[tactic(auto, using(crate::proofs::Shown::unmarked, crate::proofs::Shown::none_clear))]
 fn unmarked(asked: &Asked<'_>, index: &Index<'_>) -> Option<TreeFault>
     ensures { spec.IsFirst asked.now index.now.facts.now (rules.HasMarks index.now.facts.now) result }
 {
-    match names::unmarked(index) {
-        Some(e) => Some(TreeFault::SiblingLost(id_at(asked.view, e.file_id()))),
-        None => None,
+    if index.has_single_entries() {
+        return None;
     }
+    let facts = index.facts;
+    for e in &facts.entries {
+        if is_unmarked(index, e) {
+            return Some(TreeFault::SiblingLost(id_at(asked.view, e.file_id())));
+        }
+    }
+    None
 }
 
 // A fault of an entry, a link or a map that lacks its fellows, by what counts them.

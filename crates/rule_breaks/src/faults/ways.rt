@@ -11,7 +11,6 @@ use view_facts::Facts;
 use view_rules::TreeFault;
 
 /// A directory from which parents never lead to an id below 16, where one is there.
-#[tactic(auto, using(crate::proofs::Shown::way))]
 pub fn fault(alloc: Global, asked: &Asked<'_>, facts: &Facts) -> Result<Option<TreeFault>, NoMemory>
     ensures { IfOk result (spec.IsFirst asked.now facts.now (rules.HasWays facts.now)) }
 {

@@ -6,4 +6,4 @@ use Rattle.rule_breaks.proofs.faults.entries.root_or_kind.Goals as goal
 pub returns : goal.returns
 returns c =
     let f = c.args.index.now.facts.now in
-    either-first c.args.asked.now f (has_root f ≡ true) (HasKinds f) (Ok c.no_root-root.result) c.other_kind.result c.either.result c.either.ensures c.no_root-root.ensures c.other_kind.ensures
+    either-first c.args.asked.now f (has_root f ≡ true) (HasKinds f) (Ok c.no_root-root.result) c.first.result c.either.result c.either.ensures c.no_root-root.ensures c.first.ensures

@@ -1,0 +1,22 @@
+use Rattle.std.proofs.Common.{◌∙◌, ap}
+use Rattle.view_rules.specs.Facts.{Facts}
+use Rattle.view_rules.specs.Extents.{is_uncovered}
+use Rattle.rule_breaks.proofs.Finds.{found_item, next_item, all_clear}
+use Rattle.rule_breaks.proofs.Shown.{cover}
+use Rattle.rule_breaks.proofs.faults.extents.uncovered.Goals as goal
+
+pub returns-then-is_uncovered : goal.returns-then-is_uncovered
+returns-then-is_uncovered c =
+    cover c.args.asked.now c.args.facts.now c.f-item.result c.id.result c.id_at.result
+    (found_item (is_uncovered c.args.asked.now.site.now.block_size c.args.asked.now.ranges.now) c.args.facts.now.extents c.deref-f-items.result.now c.loop-f.f-index c.f-item.result c.is_uncovered.result
+    (c.deref-f-items.ensures.value ∙ ap (λ (f : Facts). f.extents) c.facts.view_is) c.loop-f-test.true c.f-item.is c.loop-f.invariant c.is_uncovered.ensures c.if-is_uncovered.true)
+    c.id.ensures c.id_at.ensures
+
+pub loop-f-preserved : goal.loop-f-preserved
+loop-f-preserved c =
+    next_item (is_uncovered c.args.asked.now.site.now.block_size c.args.asked.now.ranges.now) c.args.facts.now.extents c.deref-f-items.result.now c.loop-f.f-index c.f-item.result c.is_uncovered.result
+    (c.deref-f-items.ensures.value ∙ ap (λ (f : Facts). f.extents) c.facts.view_is) c.loop-f-test.true c.f-item.is c.loop-f.invariant c.is_uncovered.ensures c.if-is_uncovered.false
+
+pub returns : goal.returns
+returns c =
+    all_clear (is_uncovered c.args.asked.now.site.now.block_size c.args.asked.now.ranges.now) c.args.facts.now.extents c.deref-f-items.result.now c.loop-f.f-index (c.deref-f-items.ensures.value ∙ ap (λ (f : Facts). f.extents) c.facts.view_is) c.loop-f-test.false c.loop-f.invariant

@@ -1,5 +1,0 @@
-use Rattle.rule_breaks.proofs.Shown.{stream}
-use Rattle.rule_breaks.proofs.faults.inodes.stream.Goals as goal
-
-pub returns-in-Some : goal.returns-in-Some
-returns-in-Some c = stream c.args.asked.now c.args.index.now.facts.now c.in-Some.f.now c.id.result c.id_at.result c.in-Some.ensures c.id.ensures c.id_at.ensures
