@@ -1,7 +1,10 @@
 use Rattle.std.proofs.Common.{◌≡◌, List, [], ◌++◌, length, map, sym, subst}
 use Rattle.std.specs.List.{flat_map}
+use Rattle.std.specs.List.Sorted.{IsSortedBy}
 use Rattle.std.proofs.lemmas.List.Sorted.{IsPermutation-sym}
+use Rattle.std.proofs.lemmas.Result.{IfOk-from_err}
 use Rattle.apfs_model.specs.Lists.{In}
+use Rattle.obj_base.specs.declared.stop.Stop.TheVariants.{NoMemory}
 use Rattle.obj_base.specs.Stops.{Tells, NoFeature}
 use Rattle.view_sweep.specs.declared.sets.ViewSet.{ViewSet}
 use Rattle.view_sweep.specs.declared.joining.Sought.{Sought}
@@ -12,10 +15,11 @@ use Rattle.view_sweep.specs.Sets.{AreSets, IsSetOf, all_asked, hit_by, AreNumber
 use Rattle.view_sweep.specs.Found.{World, world, looked, used_of}
 use Rattle.view_sweep.specs.Here.{Among, IsTwiceHere, IsLostHere, IsMappedBy, IsBadHit, IsRefusedHit}
 use Rattle.view_sweep.specs.Swept.{IsOnce, ArePlaced, AreSound, AreRead, hit_asks}
+use Rattle.view_sweep.specs.Order.{is_hit_below}
 use Rattle.view_sweep.specs.Shared.{share_of}
 use Rattle.view_sweep.specs.Asked.{AreSought, IsOfSought}
 use Rattle.view_sweep.specs.Hits.{AreHitsOf}
-use Rattle.view_sweep.proofs.Buffers.{no-err, same-err}
+use Rattle.view_sweep.proofs.Buffers.{kept-same, no-err, same-err, free-told, no-read}
 use Rattle.view_sweep.proofs.Fors.{sought-like, lost-here, asked-permuted, numbered-permuted, once-permuted, level-for, hits-placed, hits-numbered, after-to, after-from}
 use Rattle.view_sweep.proofs.Members.{numbered-more}
 use Rattle.view_sweep.proofs.Shares.{level-shares}
@@ -189,8 +193,39 @@ once-requires-clause-sets g c = subst (λ (ss : List ViewSet). AreSets c.args.vi
 pub joined-requires-clause-sets : goal.joined-requires-clause-sets
 joined-requires-clause-sets g c = subst (λ (ss : List ViewSet). AreSets c.args.views.now ss) (sym c.deref-3.ensures.value) c.requires.sets
 
-pub returns-in_err-add_shares-clause-kept : goal.returns-in_err-add_shares-clause-kept
-returns-in_err-add_shares-clause-kept g c = c.read_hits.ensures.kept
+pub returns-in_err-add_shares : goal.returns-in_err-add_shares
+returns-in_err-add_shares g c = record {
+  step = λ image told. IfOk-from_err c.from_residual-in_err-add_shares.result _ c.from_residual-in_err-add_shares.ensures.0;
+  stops = λ image told. free-told c.from_residual-in_err-add_shares.result _ _ NoMemory c.from_residual-in_err-add_shares.ensures.1 tt;
+  shares = IfOk-from_err c.from_residual-in_err-add_shares.result _ c.from_residual-in_err-add_shares.ensures.0;
+  sets = IfOk-from_err c.from_residual-in_err-add_shares.result _ c.from_residual-in_err-add_shares.ensures.0;
+  numbers = IfOk-from_err c.from_residual-in_err-add_shares.result _ c.from_residual-in_err-add_shares.ensures.0;
+  same = IfOk-from_err c.from_residual-in_err-add_shares.result _ c.from_residual-in_err-add_shares.ensures.0;
+  reads = IfOk-from_err c.from_residual-in_err-add_shares.result _ c.from_residual-in_err-add_shares.ensures.0;
+  long = c.read_hits.ensures.long;
+  cause = λ e. absurd (no-read c.from_residual-in_err-add_shares.result c.from_residual-in_err-add_shares.ensures.1 e);
+  kept = c.read_hits.ensures.kept;
+}
 
-pub returns-in_err-add_shares-clause-long : goal.returns-in_err-add_shares-clause-long
-returns-in_err-add_shares-clause-long g c = c.read_hits.ensures.long
+pub returns-in_err-all : goal.returns-in_err-all
+returns-in_err-all g c = record {
+  step = λ image told. IfOk-from_err c.from_residual-in_err-all.result _ c.from_residual-in_err-all.ensures.0;
+  stops = λ image told. free-told c.from_residual-in_err-all.result _ _ NoMemory c.from_residual-in_err-all.ensures.1 tt;
+  shares = IfOk-from_err c.from_residual-in_err-all.result _ c.from_residual-in_err-all.ensures.0;
+  sets = IfOk-from_err c.from_residual-in_err-all.result _ c.from_residual-in_err-all.ensures.0;
+  numbers = IfOk-from_err c.from_residual-in_err-all.result _ c.from_residual-in_err-all.ensures.0;
+  same = IfOk-from_err c.from_residual-in_err-all.result _ c.from_residual-in_err-all.ensures.0;
+  reads = IfOk-from_err c.from_residual-in_err-all.result _ c.from_residual-in_err-all.ensures.0;
+  long = c.requires.long;
+  cause = λ e. absurd (no-read c.from_residual-in_err-all.result c.from_residual-in_err-all.ensures.1 e);
+  kept = kept-same g.S.BlockSource.bytes g.S.BlockSource.bytes_len g.S.BlockSource.faults c.args.src.now;
+}
+
+pub returns-in-Err-read_hits-clause-step : goal.returns-in-Err-read_hits-clause-step
+returns-in-Err-read_hits-clause-step g c = λ image told. tt
+
+pub returns-in-Err-read_hits-clause-kept : goal.returns-in-Err-read_hits-clause-kept
+returns-in-Err-read_hits-clause-kept g c = c.read_hits.ensures.kept
+
+pub read_hits-requires-clause-sorted : goal.read_hits-requires-clause-sorted
+read_hits-requires-clause-sorted g c = subst (λ (hs : List Hit). IsSortedBy is_hit_below hs) (sym c.deref-6.ensures.value) c.by_record.ensures.sorted

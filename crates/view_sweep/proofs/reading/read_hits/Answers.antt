@@ -7,7 +7,7 @@ use Rattle.view_sweep.specs.declared.used.Hit.{Hit}
 use Rattle.view_sweep.specs.Swept.{AreSound, IsTurned, hit_asks}
 use Rattle.view_sweep.specs.Found.{used_of, bytes_at, is_sound, wants_of}
 use Rattle.view_sweep.specs.Sets.{asked_with}
-use Rattle.view_sweep.proofs.Buffers.{same-err}
+use Rattle.view_sweep.proofs.Buffers.{same-err, free-told}
 use Rattle.view_sweep.proofs.Ranked.{place-in}
 use Rattle.view_sweep.proofs.Readings.{reading-more, reading-all}
 use Rattle.view_sweep.proofs.Waits.{asked-more}
@@ -74,3 +74,12 @@ turn-requires-clause-held g c = λ image told. c.loop-hit.invariant.held image (
 
 pub returns-in-Err-clause-cause : goal.returns-in-Err-clause-cause
 returns-in-Err-clause-cause g c = λ e. absurd (c.in-Err.ensures.no_read (same-err c.in-Err.stop _ e))
+
+pub returns-in_err-turn-clause-stops : goal.returns-in_err-turn-clause-stops
+returns-in_err-turn-clause-stops g c = λ image told. free-told c.from_residual.result _ _ c.in_err-turn.field-0.0 c.from_residual.ensures.1 c.in_err-turn.ensures.free
+
+pub returns-in-Err-clause-long : goal.returns-in-Err-clause-long
+returns-in-Err-clause-long g c = c.turn.ensures.long
+
+pub returns-clause-numbers : goal.returns-clause-numbers
+returns-clause-numbers g c = c.loop-hit.invariant.numbers

@@ -1,5 +1,7 @@
 use Rattle.std.proofs.Common.{◌≡◌, ℕ, suc, ◌+◌, ◌-◌, ◌≤◌, ◌<◌, List, [], ◌++◌, length, Some, arith, subst, ap, ◌∙◌, length-append}
+use Rattle.std.proofs.lemmas.Result.{IfOk-from_err}
 use Rattle.apfs_model.specs.Lists.{In}
+use Rattle.obj_base.specs.declared.stop.Stop.TheVariants.{NoMemory}
 use Rattle.view_sweep.specs.declared.sets.ViewSet.{ViewSet}
 use Rattle.view_sweep.specs.declared.wanted.SweptView.{SweptView}
 use Rattle.view_sweep.specs.declared.wanted.Head.{Head}
@@ -11,7 +13,7 @@ use Rattle.view_sweep.specs.Here.{Among}
 use Rattle.view_sweep.specs.Sets.{all_asked}
 use Rattle.view_sweep.specs.Shared.{AreShares, IsAbove}
 use Rattle.view_sweep.specs.Swept.{IsLive, IsSwept, IsStep}
-use Rattle.view_sweep.proofs.Buffers.{kept-on, rose-later, same-err}
+use Rattle.view_sweep.proofs.Buffers.{kept-on, rose-later, same-err, free-told, no-read}
 use Rattle.view_sweep.proofs.Members.{kept-both}
 use Rattle.view_sweep.proofs.Shares.{inside-more, shares-level}
 use Rattle.view_sweep.proofs.Steps.{here-more}
@@ -105,11 +107,28 @@ returns-clause-clear g c = λ image told.
     let z : c.loop-level.level ≡ 0 = omega (arith, c.loop-level-test.false) in
     subst (λ (n : ℕ). IsSwept (world c.args.volumes.now c.args.site.now image) c.args.heads.now n c.loop-level.out.used.items) z (c.loop-level.invariant.swept image told)
 
+pub take_level-requires-clause-below : goal.take_level-requires-clause-below
+take_level-requires-clause-below g c = c.requires.below
+
+pub returns-in-Err-clause-clear : goal.returns-in-Err-clause-clear
+returns-in-Err-clause-clear g c = λ image told. tt
+
+pub returns-in-Err-clause-shares : goal.returns-in-Err-clause-shares
+returns-in-Err-clause-shares g c = λ image told. tt
+
 pub returns-in-Err-clause-cause : goal.returns-in-Err-clause-cause
 returns-in-Err-clause-cause g c = λ e. rose-later (g.S.BlockSource.faults c.args.src.now) (g.S.BlockSource.faults c.loop-level.src) (g.S.BlockSource.faults c.take_level.new.src) c.loop-level.invariant.kept.later (c.in-Err.ensures.cause (same-err c.in-Err.stop _ e))
 
-pub returns-in_err-extend_from_slice-clause-kept : goal.returns-in_err-extend_from_slice-clause-kept
-returns-in_err-extend_from_slice-clause-kept g c = kept-on g.S.BlockSource.bytes g.S.BlockSource.bytes_len g.S.BlockSource.faults c.args.src.now c.loop-level.src c.take_level.new.src c.loop-level.invariant.kept c.take_level.ensures.kept
+pub returns-in-Err-clause-kept : goal.returns-in-Err-clause-kept
+returns-in-Err-clause-kept g c = kept-on g.S.BlockSource.bytes g.S.BlockSource.bytes_len g.S.BlockSource.faults c.args.src.now c.loop-level.src c.take_level.new.src c.loop-level.invariant.kept c.take_level.ensures.kept
 
-pub take_level-requires-clause-below : goal.take_level-requires-clause-below
-take_level-requires-clause-below g c = c.requires.below
+pub returns-in_err-extend_from_slice : goal.returns-in_err-extend_from_slice
+returns-in_err-extend_from_slice g c = record {
+  clear = λ image told. IfOk-from_err c.from_residual-in_err-extend_from_slice.result _ c.from_residual-in_err-extend_from_slice.ensures.0;
+  shares = λ image told. IfOk-from_err c.from_residual-in_err-extend_from_slice.result _ c.from_residual-in_err-extend_from_slice.ensures.0;
+  inside = IfOk-from_err c.from_residual-in_err-extend_from_slice.result _ c.from_residual-in_err-extend_from_slice.ensures.0;
+  present = λ image told. free-told c.from_residual-in_err-extend_from_slice.result _ _ NoMemory c.from_residual-in_err-extend_from_slice.ensures.1 tt;
+  reads = IfOk-from_err c.from_residual-in_err-extend_from_slice.result _ c.from_residual-in_err-extend_from_slice.ensures.0;
+  cause = λ e. absurd (no-read c.from_residual-in_err-extend_from_slice.result c.from_residual-in_err-extend_from_slice.ensures.1 e);
+  kept = kept-on g.S.BlockSource.bytes g.S.BlockSource.bytes_len g.S.BlockSource.faults c.args.src.now c.loop-level.src c.take_level.new.src c.loop-level.invariant.kept c.take_level.ensures.kept;
+}

@@ -190,3 +190,18 @@ returns-clause-kept g c = kept-on g.S.BlockSource.bytes g.S.BlockSource.bytes_le
 
 pub returns-in-Err-clause-kept : goal.returns-in-Err-clause-kept
 returns-in-Err-clause-kept g c = c.take_level.ensures.kept
+
+pub returns-clause-clear : goal.returns-clause-clear
+returns-clause-clear g c = λ image told. tt
+
+pub returns-clause-shares : goal.returns-clause-shares
+returns-clause-shares g c = λ image told. tt
+
+pub returns-in-Err-clause-clear : goal.returns-in-Err-clause-clear
+returns-in-Err-clause-clear g c = λ image told. tt
+
+pub returns-in-Err-clause-shares : goal.returns-in-Err-clause-shares
+returns-in-Err-clause-shares g c = λ image told. tt
+
+pub returns-in-Ok-levels-clause-present : goal.returns-in-Ok-levels-clause-present
+returns-in-Ok-levels-clause-present g c = λ image told. tt
