@@ -1,4 +1,4 @@
-use Rattle.std.proofs.Common.{◌≡◌, List, [], ◌++◌, length, map, sym, subst}
+use Rattle.std.proofs.Common.{◌≡◌, ℕ, List, [], ◌++◌, length, map, sym, subst}
 use Rattle.std.specs.List.{flat_map}
 use Rattle.std.specs.List.Sorted.{IsSortedBy}
 use Rattle.std.proofs.lemmas.List.Sorted.{IsPermutation-sym}
@@ -26,6 +26,7 @@ use Rattle.view_sweep.proofs.Shares.{level-shares}
 use Rattle.view_sweep.proofs.Steps.{AreFor, placed-permuted, here-more, twice-tells, bad-tells, step_from}
 use Rattle.view_sweep.proofs.Wholes.{looked-named}
 use Rattle.view_sweep.proofs.level.take_level.Goals as goal
+use Rattle.view_sweep.proofs.level.take_level.Goals.{After-by_record}
 
 pub once-requires-clause-numbers : goal.once-requires-clause-numbers
 once-requires-clause-numbers g c =
@@ -73,6 +74,22 @@ read_hits-requires-clause-inside g c =
     (placed-permuted c.args.site.now.blocks c.in-Ok-hits.found.items c.by_record.new.hits.items c.by_record.ensures.order
     (hits-placed (looked c.args.volumes.now c.args.site.now) c.args.site.now c.args.views.now c.hits.new.sets.items c.deref-5.result.now c.in-Ok-hits.found.items c.in-Ok-hits.ensures.hits))
 
+-- the hits in the order of their records are those of what is asked
+level-hits : (g : _) (c : After-by_record g) (image : List ℕ)
+    → AreFor (world c.args.volumes.now c.args.site.now image) (all_asked c.args.views.now c.args.sets.now.items c.args.current.now.items) c.by_record.new.hits.items (hit_by c.args.views.now c.hits.new.sets.items)
+level-hits g c image =
+    let k : World = world c.args.volumes.now c.args.site.now image in
+    let views : List SweptView = c.args.views.now in
+    let old : List ViewSet = c.args.sets.now.items in
+    let new : List ViewSet = c.hits.new.sets.items in
+    let sorted : List Asked = c.by_id.new.asked.items in
+    let all : List Sought = c.in_ok-all.all.items in
+    let found : List Hit = c.in-Ok-hits.found.items in
+    let so : AreSought old sorted all =
+    subst (λ (ss : List ViewSet). AreSought ss sorted all) c.deref-3.ensures.value (subst (λ (xs : List Asked). AreSought c.deref-3.result.now xs all) c.deref-4.ensures.value c.in_ok-all.ensures.all) in
+    let of : AreHitsOf k.look k.site views new all found = subst (λ (xs : List Sought). AreHitsOf k.look k.site views new xs found) c.deref-5.ensures.value c.in-Ok-hits.ensures.hits in
+    level-for k views old new c.args.current.now.items sorted all found c.by_record.new.hits.items c.in_ok-by_id.ensures.order so of c.by_record.ensures.order
+
 pub returns-clause-step : goal.returns-clause-step
 returns-clause-step g c = λ image told.
     let k : World = world c.args.volumes.now c.args.site.now image in
@@ -81,15 +98,10 @@ returns-clause-step g c = λ image told.
     let new : List ViewSet = c.hits.new.sets.items in
     let current : List Asked = c.args.current.now.items in
     let sorted : List Asked = c.by_id.new.asked.items in
-    let all : List Sought = c.in_ok-all.all.items in
-    let found : List Hit = c.in-Ok-hits.found.items in
     let hits : List Hit = c.by_record.new.hits.items in
     let before : List Asked = c.args.below.now.items in
     let after : List Asked = c.read_hits.new.out.items in
-    let so : AreSought old sorted all =
-    subst (λ (ss : List ViewSet). AreSought ss sorted all) c.deref-3.ensures.value (subst (λ (xs : List Asked). AreSought c.deref-3.result.now xs all) c.deref-4.ensures.value c.in_ok-all.ensures.all) in
-    let of : AreHitsOf k.look k.site views new all found = subst (λ (xs : List Sought). AreHitsOf k.look k.site views new xs found) c.deref-5.ensures.value c.in-Ok-hits.ensures.hits in
-    let for : AreFor k (all_asked views old current) hits (hit_by views new) = level-for k views old new current sorted all found hits c.in_ok-by_id.ensures.order so of c.by_record.ensures.order in
+    let for : AreFor k (all_asked views old current) hits (hit_by views new) = level-hits g (goal.at.returns-clause-step g c).After-by_record image in
     let once : IsOnce (all_asked views old current) = once-permuted views old current sorted c.in_ok-by_id.ensures.order
     (subst (λ (ss : List ViewSet). IsOnce (all_asked views ss sorted)) c.deref.ensures.value (subst (λ (xs : List Asked). IsOnce (all_asked views c.deref.result.now xs)) c.deref-2.ensures.value c.in-Ok.ensures.once)) in
     let e : after ≡ before ++ flat_map (hit_asks k.bytes) hits = subst (λ (hs : List Hit). after ≡ before ++ flat_map (hit_asks k.bytes) hs) c.deref-6.ensures.value (c.in-Ok-read_hits.ensures.wants image told) in
@@ -114,14 +126,8 @@ returns-in-Err-read_hits-clause-stops g c = λ image told.
     let old : List ViewSet = c.args.sets.now.items in
     let new : List ViewSet = c.hits.new.sets.items in
     let current : List Asked = c.args.current.now.items in
-    let sorted : List Asked = c.by_id.new.asked.items in
-    let all : List Sought = c.in_ok-all.all.items in
-    let found : List Hit = c.in-Ok-hits.found.items in
     let hits : List Hit = c.by_record.new.hits.items in
-    let so : AreSought old sorted all =
-    subst (λ (ss : List ViewSet). AreSought ss sorted all) c.deref-3.ensures.value (subst (λ (xs : List Asked). AreSought c.deref-3.result.now xs all) c.deref-4.ensures.value c.in_ok-all.ensures.all) in
-    let of : AreHitsOf k.look k.site views new all found = subst (λ (xs : List Sought). AreHitsOf k.look k.site views new xs found) c.deref-5.ensures.value c.in-Ok-hits.ensures.hits in
-    let for : AreFor k (all_asked views old current) hits (hit_by views new) = level-for k views old new current sorted all found hits c.in_ok-by_id.ensures.order so of c.by_record.ensures.order in
+    let for : AreFor k (all_asked views old current) hits (hit_by views new) = level-hits g (goal.at.returns-in-Err-read_hits-clause-stops g c).After-by_record image in
     bad-tells k (looked-named c.args.volumes.now c.args.site.now image) (all_asked views old current) hits (hit_by views new) for c.in-Err-read_hits.stop
     (subst (λ (hs : List Hit). Tells (IsBadHit k.site k.bytes hs) (IsRefusedHit k.site k.bytes hs) c.in-Err-read_hits.stop) c.deref-6.ensures.value (c.in-Err-read_hits.ensures.stops image told))
 
@@ -132,17 +138,12 @@ returns-clause-shares g c =
     let old : List ViewSet = c.args.sets.now.items in
     let new : List ViewSet = c.hits.new.sets.items in
     let current : List Asked = c.args.current.now.items in
-    let sorted : List Asked = c.by_id.new.asked.items in
-    let all : List Sought = c.in_ok-all.all.items in
     let found : List Hit = c.in-Ok-hits.found.items in
     let hits : List Hit = c.by_record.new.hits.items in
-    let so : AreSought old sorted all =
-    subst (λ (ss : List ViewSet). AreSought ss sorted all) c.deref-3.ensures.value (subst (λ (xs : List Asked). AreSought c.deref-3.result.now xs all) c.deref-4.ensures.value c.in_ok-all.ensures.all) in
-    let of : AreHitsOf k.look k.site views new all found = subst (λ (xs : List Sought). AreHitsOf k.look k.site views new xs found) c.deref-5.ensures.value c.in-Ok-hits.ensures.hits in
-    let for : AreFor k (all_asked views old current) hits (hit_by views new) = level-for k views old new current sorted all found hits c.in_ok-by_id.ensures.order so of c.by_record.ensures.order in
+    let for : AreFor k (all_asked views old current) hits (hit_by views new) = level-hits g (goal.at.returns-clause-shares g c).After-by_record [] in
     level-shares k (looked-named c.args.volumes.now c.args.site.now []) views new (all_asked views old current) hits for c.in-Ok-hits.ensures.sets
-    (hits-numbered k.look k.site views new all found hits of c.by_record.ensures.order) c.args.site.now.blocks c.args.shares.now.items c.add_shares.new.out.items
-    (placed-permuted c.args.site.now.blocks found hits c.by_record.ensures.order (hits-placed k.look k.site views new all found of))
+    (hits-numbered k.look k.site views new c.deref-5.result.now found hits c.in-Ok-hits.ensures.hits c.by_record.ensures.order) c.args.site.now.blocks c.args.shares.now.items c.add_shares.new.out.items
+    (placed-permuted c.args.site.now.blocks found hits c.by_record.ensures.order (hits-placed k.look k.site views new c.deref-5.result.now found c.in-Ok-hits.ensures.hits))
     (subst (λ (hs : List Hit). c.add_shares.new.out.items ≡ c.args.shares.now.items ++ map share_of hs) c.deref-7.ensures.value c.in_ok-add_shares.ensures)
 
 pub hits-requires-clause-below : goal.hits-requires-clause-below
