@@ -58,17 +58,6 @@ levels-requires-clause-stretches g c =
     subst (λ (runs : List Run). AreStretches c.deref-5.result.now runs) (sym c.deref-6.ensures.value)
     (subst (λ (vs : List SweptView). AreStretches vs c.in_ok-stretches.stretches.items) (sym c.deref-5.ensures.value) (subst (λ (vs : List SweptView). AreStretches vs c.in_ok-stretches.stretches.items) c.deref-2.ensures.value c.in_ok-stretches.ensures.all))
 
-pub returns-in-Err-clause-present : goal.returns-in-Err-clause-present
-returns-in-Err-clause-present g c = λ image told.
-    let k : World = world c.args.volumes.now c.args.site.now image in
-    let heads : List Head = c.args.heads.now in
-    let views : List SweptView = c.in_ok-views.views.items in
-    let sets : List ViewSet = c.wants.new.sets.items in
-    let first : List Asked = c.in_ok-first.first.items in
-    let same : HaveSame (all_asked views sets first) (heads_want heads) = subst (λ (vs : List SweptView). HaveSame (all_asked vs sets first) (heads_want heads)) c.deref.ensures.value c.in_ok-first.ensures.all in
-    here-more k (Among (all_asked views sets first)) (IsLive k heads) (λ w h. rooted w (same.to w h)) c.in-Err.stop
-    (subst (λ (vs : List SweptView). TellsHere k (Among (all_asked vs sets first)) c.in-Err.stop) c.deref-3.ensures.value (c.in-Err.ensures.stops image told))
-
 -- what superblocks want was taken, as it is told of the sets of the views
 top-step : (k : World) (heads : List Head) (views one two : List SweptView) (sets more : List ViewSet) (first before kids : List Asked) (read : List Used) → one ≡ views → two ≡ views → before ≡ [] → HaveSame (all_asked one sets first) (heads_want heads)
     → IsStep k (all_asked two sets first) (all_asked two more before) (all_asked two more kids) read → IsStep k (heads_want heads) [] (all_asked views more kids) read
@@ -131,15 +120,6 @@ levels-requires-clause-shares g c = λ image told.
     (shares-top c.args.site.now.blocks k heads views wanted more new same
     (top-shares c.args.site.now.blocks k.look (Among wanted) views c.deref-3.result.now more c.new-shares.result.items new c.deref-3.ensures.value c.new-shares.ensures.items c.in-Ok.ensures.shares))
 
-pub returns-in-Ok-levels-clause-shares : goal.returns-in-Ok-levels-clause-shares
-returns-in-Ok-levels-clause-shares g c = λ image told.
-    subst (λ (vs : List SweptView). AreShares (looked c.args.volumes.now c.args.site.now) vs (IsAbove (world c.args.volumes.now c.args.site.now image) c.args.heads.now 0) c.levels.new.out.sets.items c.levels.new.out.shares.items) (c.deref-5.ensures.value ∙ c.in_ok-views.ensures)
-    (c.in-Ok-levels.ensures.shares image (c.take_level.ensures.kept.same_bytes ∙ told))
-
-pub returns-in-Ok-levels-clause-inside : goal.returns-in-Ok-levels-clause-inside
-returns-in-Ok-levels-clause-inside g c =
-    subst (λ (vs : List SweptView). AreInside c.args.site.now.blocks vs c.levels.new.out.sets.items c.levels.new.out.shares.items) (c.deref-5.ensures.value ∙ c.in_ok-views.ensures) c.in-Ok-levels.ensures.inside
-
 pub take_level-requires-clause-long : goal.take_level-requires-clause-long
 take_level-requires-clause-long g c = ap length (c.in_ok-block.ensures.items_if_clones_equal (λ y same. same)) ∙ length-replicate c.args.site.now.block_size 0
 
@@ -158,50 +138,50 @@ take_level-requires-clause-sets g c = subst (λ (vs : List SweptView). AreSets v
 pub take_level-requires-clause-numbers : goal.take_level-requires-clause-numbers
 take_level-requires-clause-numbers g c = c.in_ok-first.ensures.numbers
 
-pub returns-in-Ok-levels-clause-clear : goal.returns-in-Ok-levels-clause-clear
-returns-in-Ok-levels-clause-clear g c = λ image told. c.in-Ok-levels.ensures.clear image (c.take_level.ensures.kept.same_bytes ∙ told)
+pub returns : goal.returns
+returns g c = record {
+  clear = λ image told. tt;
+  shares = λ image told. tt;
+  inside = tt;
+  present = λ image told. c.in-Err-levels.ensures.present image (c.take_level.ensures.kept.same_bytes ∙ told);
+  reads = tt;
+  cause = (λ e.
+      let a : g.S.BlockSource.faults c.args.src.now ≤ g.S.BlockSource.faults c.take_level.new.src = c.take_level.ensures.kept.later in
+      let b : Rose (g.S.BlockSource.faults c.take_level.new.src) (g.S.BlockSource.faults c.levels.new.src) = c.in-Err-levels.ensures.cause (same-err c.in-Err-levels.stop _ e) in
+      rose-later (g.S.BlockSource.faults c.args.src.now) (g.S.BlockSource.faults c.take_level.new.src) (g.S.BlockSource.faults c.levels.new.src) a b);
+  kept = kept-on g.S.BlockSource.bytes g.S.BlockSource.bytes_len g.S.BlockSource.faults c.args.src.now c.take_level.new.src c.levels.new.src c.take_level.ensures.kept c.levels.ensures.kept;
+}
 
-pub returns-in-Ok-levels-clause-cause : goal.returns-in-Ok-levels-clause-cause
-returns-in-Ok-levels-clause-cause g c = λ e. absurd (no-err _ _ e)
+pub returns-in-Err : goal.returns-in-Err
+returns-in-Err g c = record {
+  clear = λ image told. tt;
+  shares = λ image told. tt;
+  inside = tt;
+  present = (λ image told.
+      let k : World = world c.args.volumes.now c.args.site.now image in
+      let heads : List Head = c.args.heads.now in
+      let views : List SweptView = c.in_ok-views.views.items in
+      let sets : List ViewSet = c.wants.new.sets.items in
+      let first : List Asked = c.in_ok-first.first.items in
+      let same : HaveSame (all_asked views sets first) (heads_want heads) = subst (λ (vs : List SweptView). HaveSame (all_asked vs sets first) (heads_want heads)) c.deref.ensures.value c.in_ok-first.ensures.all in
+      here-more k (Among (all_asked views sets first)) (IsLive k heads) (λ w h. rooted w (same.to w h)) c.in-Err.stop
+      (subst (λ (vs : List SweptView). TellsHere k (Among (all_asked vs sets first)) c.in-Err.stop) c.deref-3.ensures.value (c.in-Err.ensures.stops image told)));
+  reads = tt;
+  cause = λ e. c.in-Err.ensures.cause (same-err c.in-Err.stop _ e);
+  kept = c.take_level.ensures.kept;
+}
 
-pub returns-in-Ok-levels-clause-reads : goal.returns-in-Ok-levels-clause-reads
-returns-in-Ok-levels-clause-reads g c =
-    let a : g.S.BlockSource.reads c.take_level.new.src ≤ g.S.BlockSource.reads c.args.src.now + length c.in-Ok.read.items = c.in-Ok.ensures.reads in
-    let b : g.S.BlockSource.reads c.levels.new.src + length c.in-Ok.read.items ≤ g.S.BlockSource.reads c.take_level.new.src + length c.levels.new.out.used.items = c.in-Ok-levels.ensures.reads in
-    omega arith
-
-pub returns-clause-present : goal.returns-clause-present
-returns-clause-present g c = λ image told. c.in-Err-levels.ensures.present image (c.take_level.ensures.kept.same_bytes ∙ told)
-
-pub returns-clause-cause : goal.returns-clause-cause
-returns-clause-cause g c = λ e.
-    let a : g.S.BlockSource.faults c.args.src.now ≤ g.S.BlockSource.faults c.take_level.new.src = c.take_level.ensures.kept.later in
-    let b : Rose (g.S.BlockSource.faults c.take_level.new.src) (g.S.BlockSource.faults c.levels.new.src) = c.in-Err-levels.ensures.cause (same-err c.in-Err-levels.stop _ e) in
-    rose-later (g.S.BlockSource.faults c.args.src.now) (g.S.BlockSource.faults c.take_level.new.src) (g.S.BlockSource.faults c.levels.new.src) a b
-
-pub returns-in-Err-clause-cause : goal.returns-in-Err-clause-cause
-returns-in-Err-clause-cause g c = λ e. c.in-Err.ensures.cause (same-err c.in-Err.stop _ e)
-
-pub returns-in-Ok-levels-clause-kept : goal.returns-in-Ok-levels-clause-kept
-returns-in-Ok-levels-clause-kept g c = kept-on g.S.BlockSource.bytes g.S.BlockSource.bytes_len g.S.BlockSource.faults c.args.src.now c.take_level.new.src c.levels.new.src c.take_level.ensures.kept c.levels.ensures.kept
-
-pub returns-clause-kept : goal.returns-clause-kept
-returns-clause-kept g c = kept-on g.S.BlockSource.bytes g.S.BlockSource.bytes_len g.S.BlockSource.faults c.args.src.now c.take_level.new.src c.levels.new.src c.take_level.ensures.kept c.levels.ensures.kept
-
-pub returns-in-Err-clause-kept : goal.returns-in-Err-clause-kept
-returns-in-Err-clause-kept g c = c.take_level.ensures.kept
-
-pub returns-clause-clear : goal.returns-clause-clear
-returns-clause-clear g c = λ image told. tt
-
-pub returns-clause-shares : goal.returns-clause-shares
-returns-clause-shares g c = λ image told. tt
-
-pub returns-in-Err-clause-clear : goal.returns-in-Err-clause-clear
-returns-in-Err-clause-clear g c = λ image told. tt
-
-pub returns-in-Err-clause-shares : goal.returns-in-Err-clause-shares
-returns-in-Err-clause-shares g c = λ image told. tt
-
-pub returns-in-Ok-levels-clause-present : goal.returns-in-Ok-levels-clause-present
-returns-in-Ok-levels-clause-present g c = λ image told. tt
+pub returns-in-Ok-levels : goal.returns-in-Ok-levels
+returns-in-Ok-levels g c = record {
+  clear = λ image told. c.in-Ok-levels.ensures.clear image (c.take_level.ensures.kept.same_bytes ∙ told);
+  shares = λ image told.
+      subst (λ (vs : List SweptView). AreShares (looked c.args.volumes.now c.args.site.now) vs (IsAbove (world c.args.volumes.now c.args.site.now image) c.args.heads.now 0) c.levels.new.out.sets.items c.levels.new.out.shares.items) (c.deref-5.ensures.value ∙ c.in_ok-views.ensures)
+      (c.in-Ok-levels.ensures.shares image (c.take_level.ensures.kept.same_bytes ∙ told));
+  inside = subst (λ (vs : List SweptView). AreInside c.args.site.now.blocks vs c.levels.new.out.sets.items c.levels.new.out.shares.items) (c.deref-5.ensures.value ∙ c.in_ok-views.ensures) c.in-Ok-levels.ensures.inside;
+  present = λ image told. tt;
+  reads = (let a : g.S.BlockSource.reads c.take_level.new.src ≤ g.S.BlockSource.reads c.args.src.now + length c.in-Ok.read.items = c.in-Ok.ensures.reads in
+      let b : g.S.BlockSource.reads c.levels.new.src + length c.in-Ok.read.items ≤ g.S.BlockSource.reads c.take_level.new.src + length c.levels.new.out.used.items = c.in-Ok-levels.ensures.reads in
+      omega arith);
+  cause = λ e. absurd (no-err _ _ e);
+  kept = kept-on g.S.BlockSource.bytes g.S.BlockSource.bytes_len g.S.BlockSource.faults c.args.src.now c.take_level.new.src c.levels.new.src c.take_level.ensures.kept c.levels.ensures.kept;
+}
