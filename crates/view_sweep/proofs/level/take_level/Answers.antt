@@ -35,19 +35,6 @@ once-requires-clause-numbers g c =
     subst (λ (ss : List ViewSet). AreNumbered (length ss) c.deref-2.result.now) (sym c.deref.ensures.value)
     (subst (λ (xs : List Asked). AreNumbered (length sets) xs) (sym c.deref-2.ensures.value) (numbered-permuted (length sets) c.args.current.now.items sorted c.in_ok-by_id.ensures.order c.requires.numbers))
 
-pub joined-requires-clause-numbers : goal.joined-requires-clause-numbers
-joined-requires-clause-numbers g c =
-    let sets : List ViewSet = c.args.sets.now.items in
-    let sorted : List Asked = c.by_id.new.asked.items in
-    subst (λ (ss : List ViewSet). AreNumbered (length ss) c.deref-4.result.now) (sym c.deref-3.ensures.value)
-    (subst (λ (xs : List Asked). AreNumbered (length sets) xs) (sym c.deref-4.ensures.value) (numbered-permuted (length sets) c.args.current.now.items sorted c.in_ok-by_id.ensures.order c.requires.numbers))
-
-pub read_hits-requires-clause-inside : goal.read_hits-requires-clause-inside
-read_hits-requires-clause-inside g c =
-    subst (λ (hs : List Hit). ArePlaced c.args.site.now.blocks hs) (sym c.deref-6.ensures.value)
-    (placed-permuted c.args.site.now.blocks c.in-Ok-hits.found.items c.by_record.new.hits.items c.by_record.ensures.order
-    (hits-placed (looked c.args.volumes.now c.args.site.now) c.args.site.now c.args.views.now c.hits.new.sets.items c.deref-5.result.now c.in-Ok-hits.found.items c.in-Ok-hits.ensures.hits))
-
 -- the hits in the order of their records are those of what is asked
 level-hits : (g : _) (c : After-by_record g) (image : List ℕ)
     → AreFor (world c.args.volumes.now c.args.site.now image) (all_asked c.args.views.now c.args.sets.now.items c.args.current.now.items) c.by_record.new.hits.items (hit_by c.args.views.now c.hits.new.sets.items)
@@ -64,14 +51,14 @@ level-hits g c image =
     let of : AreHitsOf k.look k.site views new all found = subst (λ (xs : List Sought). AreHitsOf k.look k.site views new xs found) c.deref-5.ensures.value c.in-Ok-hits.ensures.hits in
     level-for k views old new c.args.current.now.items sorted all found c.by_record.new.hits.items c.in_ok-by_id.ensures.order so of c.by_record.ensures.order
 
-pub hits-requires-clause-below : goal.hits-requires-clause-below
-hits-requires-clause-below g c = c.requires.below
-
-pub hits-requires-clause-all : goal.hits-requires-clause-all
-hits-requires-clause-all g c = subst (λ (xs : List Sought). (s : Sought) → In s xs → IsSetOf c.args.views.now s.set.items) (sym c.deref-5.ensures.value) c.in_ok-all.ensures.sets
-
-pub read_hits-requires-clause-long : goal.read_hits-requires-clause-long
-read_hits-requires-clause-long g c = c.requires.long
+pub hits-requires : goal.hits-requires
+hits-requires g c = record {
+  below = c.requires.below;
+  rising = c.requires.rising;
+  stretches = c.requires.stretches;
+  all = subst (λ (xs : List Sought). (s : Sought) → In s xs → IsSetOf c.args.views.now s.set.items) (sym c.deref-5.ensures.value) c.in_ok-all.ensures.sets;
+  sets = c.requires.sets;
+}
 
 pub returns-in-Err : goal.returns-in-Err
 returns-in-Err g c = record {
@@ -171,8 +158,14 @@ returns-in-Err-hits g c = record {
 pub once-requires-clause-sets : goal.once-requires-clause-sets
 once-requires-clause-sets g c = subst (λ (ss : List ViewSet). AreSets c.args.views.now ss) (sym c.deref.ensures.value) c.requires.sets
 
-pub joined-requires-clause-sets : goal.joined-requires-clause-sets
-joined-requires-clause-sets g c = subst (λ (ss : List ViewSet). AreSets c.args.views.now ss) (sym c.deref-3.ensures.value) c.requires.sets
+pub joined-requires : goal.joined-requires
+joined-requires g c = record {
+  sets = subst (λ (ss : List ViewSet). AreSets c.args.views.now ss) (sym c.deref-3.ensures.value) c.requires.sets;
+  numbers = (let sets : List ViewSet = c.args.sets.now.items in
+      let sorted : List Asked = c.by_id.new.asked.items in
+      subst (λ (ss : List ViewSet). AreNumbered (length ss) c.deref-4.result.now) (sym c.deref-3.ensures.value)
+      (subst (λ (xs : List Asked). AreNumbered (length sets) xs) (sym c.deref-4.ensures.value) (numbered-permuted (length sets) c.args.current.now.items sorted c.in_ok-by_id.ensures.order c.requires.numbers)));
+}
 
 pub returns-in_err-add_shares : goal.returns-in_err-add_shares
 returns-in_err-add_shares g c = record {
@@ -225,5 +218,12 @@ returns-in-Err-read_hits g c = record {
   kept = c.read_hits.ensures.kept;
 }
 
-pub read_hits-requires-clause-sorted : goal.read_hits-requires-clause-sorted
-read_hits-requires-clause-sorted g c = subst (λ (hs : List Hit). IsSortedBy is_hit_below hs) (sym c.deref-6.ensures.value) c.by_record.ensures.sorted
+pub read_hits-requires : goal.read_hits-requires
+read_hits-requires g c = record {
+  site = c.requires.site;
+  long = c.requires.long;
+  sorted = subst (λ (hs : List Hit). IsSortedBy is_hit_below hs) (sym c.deref-6.ensures.value) c.by_record.ensures.sorted;
+  inside = subst (λ (hs : List Hit). ArePlaced c.args.site.now.blocks hs) (sym c.deref-6.ensures.value)
+      (placed-permuted c.args.site.now.blocks c.in-Ok-hits.found.items c.by_record.new.hits.items c.by_record.ensures.order
+      (hits-placed (looked c.args.volumes.now c.args.site.now) c.args.site.now c.args.views.now c.hits.new.sets.items c.deref-5.result.now c.in-Ok-hits.found.items c.in-Ok-hits.ensures.hits));
+}

@@ -2,6 +2,7 @@ use Rattle.std.proofs.Common.{◌≡◌, ℕ, ◌+◌, ◌≤◌, List, ◌++◌
 use Rattle.std.specs.List.{flat_map}
 use Rattle.std.proofs.lemmas.List.{take_all}
 use Rattle.apfs_model.specs.Blocks.{in_container}
+use Rattle.obj_base.specs.Site.{IsSiteFor}
 use Rattle.view_sweep.specs.declared.used.Used.{Used}
 use Rattle.view_sweep.specs.declared.used.Hit.{Hit}
 use Rattle.view_sweep.specs.Swept.{AreSound, IsTurned, hit_asks}
@@ -14,12 +15,6 @@ use Rattle.view_sweep.proofs.Waits.{asked-more}
 use Rattle.view_sweep.proofs.Orders.{used_total, used-one}
 use Rattle.view_sweep.proofs.Hits.{nohit, flat-more, sound-more, bad-hit, held-block}
 use Rattle.view_sweep.proofs.reading.read_hits.Goals as goal
-
-pub turn-requires-clause-inside : goal.turn-requires-clause-inside
-turn-requires-clause-inside g c =
-    let h : Hit = get_or c.args.hits.now c.loop-hit.hit-index nohit in
-    subst (λ (u : Used). in_container c.args.site.now.blocks u.mapping.paddr ≡ Some u.mapping.paddr) (sym c.used.ensures)
-    (c.requires.inside h (place-in c.args.hits.now c.loop-hit.hit-index nohit c.loop-hit-test.true))
 
 pub loop-hit-preserved : goal.loop-hit-preserved
 loop-hit-preserved g c =
@@ -48,8 +43,15 @@ loop-hit-preserved g c =
           omega arith;
     }
 
-pub turn-requires-clause-held : goal.turn-requires-clause-held
-turn-requires-clause-held g c = λ image told. c.loop-hit.invariant.held image (sym c.loop-hit.invariant.kept.same_bytes ∙ told)
+pub turn-requires : goal.turn-requires
+turn-requires g c = record {
+  site = subst (λ n. IsSiteFor c.args.site.now n) (sym c.loop-hit.invariant.kept.same_size) c.requires.site;
+  inside = (let h : Hit = get_or c.args.hits.now c.loop-hit.hit-index nohit in
+      subst (λ (u : Used). in_container c.args.site.now.blocks u.mapping.paddr ≡ Some u.mapping.paddr) (sym c.used.ensures)
+      (c.requires.inside h (place-in c.args.hits.now c.loop-hit.hit-index nohit c.loop-hit-test.true)));
+  long = c.loop-hit.invariant.long;
+  held = λ image told. c.loop-hit.invariant.held image (sym c.loop-hit.invariant.kept.same_bytes ∙ told);
+}
 
 pub returns-in_err-turn-clause-stops : goal.returns-in_err-turn-clause-stops
 returns-in_err-turn-clause-stops g c = λ image told. free-told c.from_residual.result _ _ c.in_err-turn.field-0.0 c.from_residual.ensures.1 c.in_err-turn.ensures.free

@@ -1,6 +1,7 @@
-use Rattle.std.proofs.Common.{◌≡◌, ℕ, suc, ◌+◌, ◌-◌, ◌≤◌, ◌<◌, List, [], ◌++◌, length, Some, arith, subst, ap, ◌∙◌, length-append}
+use Rattle.std.proofs.Common.{◌≡◌, ℕ, suc, ◌+◌, ◌-◌, ◌≤◌, ◌<◌, List, [], ◌++◌, length, Some, arith, sym, subst, ap, ◌∙◌, length-append}
 use Rattle.std.proofs.lemmas.Result.{IfOk-from_err}
 use Rattle.apfs_model.specs.Lists.{In}
+use Rattle.obj_base.specs.Site.{IsSiteFor}
 use Rattle.obj_base.specs.declared.stop.Stop.TheVariants.{NoMemory}
 use Rattle.view_sweep.specs.declared.sets.ViewSet.{ViewSet}
 use Rattle.view_sweep.specs.declared.wanted.SweptView.{SweptView}
@@ -31,16 +32,6 @@ above-shares : (k : World) (heads : List Head) (views : List SweptView) (level :
 above-shares k heads views level sets shares pos a =
     let s : level ≡ suc (level - 1) = omega arith in
     subst (λ (n : ℕ). AreShares k.look views (IsAbove k heads n) sets shares) s a
-
-pub take_level-requires-clause-sets : goal.take_level-requires-clause-sets
-take_level-requires-clause-sets g c = c.loop-level.invariant.inside.sets_are
-
-pub take_level-requires-clause-numbers : goal.take_level-requires-clause-numbers
-take_level-requires-clause-numbers g c =
-    level-numbered (length c.loop-level.out.sets.items) (length c.args.out.now.sets.items) (c.loop-level.level - 1) c.args.kids.now c.loop-level.current.items c.add_level.new.out.items c.loop-level.invariant.more.more c.in_ok-add_level.ensures c.requires.numbers c.loop-level.invariant.numbers
-
-pub take_level-requires-clause-waiting : goal.take_level-requires-clause-waiting
-take_level-requires-clause-waiting g c = λ a h. absurd (subst (λ (xs : List Asked). In a xs) c.new-below.ensures.items h)
 
 pub loop-level-preserved : goal.loop-level-preserved
 loop-level-preserved g c =
@@ -100,8 +91,17 @@ returns g c = record {
   kept = c.loop-level.invariant.kept;
 }
 
-pub take_level-requires-clause-below : goal.take_level-requires-clause-below
-take_level-requires-clause-below g c = c.requires.below
+pub take_level-requires : goal.take_level-requires
+take_level-requires g c = record {
+  site = subst (λ n. IsSiteFor c.args.site.now n) (sym c.loop-level.invariant.kept.same_size) c.requires.site;
+  long = c.loop-level.invariant.long;
+  below = c.requires.below;
+  rising = c.requires.rising;
+  stretches = c.requires.stretches;
+  sets = c.loop-level.invariant.inside.sets_are;
+  numbers = level-numbered (length c.loop-level.out.sets.items) (length c.args.out.now.sets.items) (c.loop-level.level - 1) c.args.kids.now c.loop-level.current.items c.add_level.new.out.items c.loop-level.invariant.more.more c.in_ok-add_level.ensures c.requires.numbers c.loop-level.invariant.numbers;
+  waiting = λ a h. absurd (subst (λ (xs : List Asked). In a xs) c.new-below.ensures.items h);
+}
 
 pub returns-in-Err : goal.returns-in-Err
 returns-in-Err g c = record {
