@@ -1,8 +1,10 @@
 -- No more is read than namings are noted.
-use Rattle.std.proofs.Common.{◌≡◌, ℕ, suc, ◌+◌, ◌≤◌, List, [], ◌∷◌, ◌++◌, length, map, inl, inr, refl, ap, ◌∙◌, arith}
+use Rattle.std.proofs.Common.{◌≡◌, ℕ, suc, ◌+◌, ◌≤◌, List, [], ◌∷◌, ◌++◌, length, map, inl, inr, refl, ap, Ok, Err, Option, ◌∙◌, arith}
 use Rattle.std.specs.Prelude.{◌==◌}
 use Rattle.std.proofs.lemmas.List.{length-map, append_assoc}
 use Rattle.std.proofs.lemmas.List.FromFn.{length-map-range_with_len}
+use Rattle.std.specs.Result.{IsErrOf}
+use Rattle.apfs_model.specs.Kept.{IsKept}
 use Rattle.apfs_model.proofs.BoolTests.{test_or, equal-from}
 use Rattle.bt_cursor.specs.declared.step.Step.{Step}
 use Rattle.nx_ring.specs.Checkpoint.{Seen, site_of}
@@ -61,3 +63,19 @@ jump-one nx = elim (test_or (jumpstart_of nx == 0)) as (λ _. length (jump_root 
   | inl z ↦ let e : length (jump_root nx) ≡ 0 = jump-none nx (equal-from (jumpstart_of nx) 0 z) in omega (arith, e)
   | inr s ↦ let e : length (jump_root nx) ≡ 1 = one-root nx (jumpstart_of nx) refl s in omega (arith, e)
 ]
+
+-- an answer is no error
+pub no-err : {T E : Type 0} (x : T) (e : E) → IsErrOf {T = T} {E = E} (Ok x) e → ⊥
+no-err x e is = let q : ⊥ = cc in q
+
+-- an error is the same one in place of another answer
+pub same-err : {T U E : Type 0} (a e : E) → IsErrOf {T = T} {E = E} (Err a) e → IsErrOf {T = U} {E = E} (Err a) e
+same-err {T} {U} {E} a e is = let s : a ≡ e = cc in λ i. Err (s i)
+
+-- a source that is kept twice is kept
+pub kept-on : {S : Type 0} (bytes : S → Option (List ℕ)) (size faults : S → ℕ) (a b c : S) → IsKept bytes size faults a b → IsKept bytes size faults b c → IsKept bytes size faults a c
+kept-on bytes size faults a b c one two = record {
+  same_bytes = two.same_bytes ∙ one.same_bytes;
+  same_size = two.same_size ∙ one.same_size;
+  later = let x : faults a ≤ faults b = one.later in let y : faults b ≤ faults c = two.later in omega arith;
+}

@@ -1,5 +1,5 @@
 -- Namings and owners that tie by their orders are one, and so are look-ups that are told as equal.
-use Rattle.std.proofs.Common.{◌≡◌, Bool, true, false, List, [], ◌∷◌, inl, inr, refl, ap, sym, ◌∙◌}
+use Rattle.std.proofs.Common.{◌≡◌, Bool, true, false, List, [], ◌∷◌, inl, inr, refl, ap, sym, subst, ◌∙◌}
 use Rattle.std.specs.declared.cmp.Ordering.{Ordering}
 use Rattle.std.specs.declared.cmp.Ordering.TheVariants.{Less, Equal, Greater}
 use Rattle.std.specs.Ordering.{nat_cmp, bool_cmp, ordering_then, ordering_reverse, is_eq}
@@ -213,3 +213,11 @@ own-reverse Greater e = absurd (cc)
 
 pub look-itself : (a : LookUp) → is_look a a ≡ true
 look-itself a = look_laws.matches_eq-law a a ∙ own-reverse (look_rank a a) (look_laws.total-law.antisymm a a)
+
+never-both : (b : Bool) → b ≡ true → b ≡ false → ⊥
+never-both true t f = absurd (cc)
+never-both false t f = absurd (cc)
+
+-- and what is told as other is another
+pub naming-other : (a b : Naming) → naming_eq a b ≡ false → a ≡ b → ⊥
+naming-other a b e same = never-both (naming_eq a b) (subst (λ (n : Naming). naming_eq a n ≡ true) same (naming_laws.matches_eq-law a a ∙ own-reverse (naming_rank a a) (naming_laws.total-law.antisymm a a))) e

@@ -45,7 +45,9 @@ impl Gathered {
 
     // Puts what is noted after the rest.
     fn put(&mut self, one: Noted) -> Result<(), NoMemory>
-        ensures ok { OnOk result (self.new ≡ record { namings = self.old.namings ++ namings_in one; owners = self.old.owners ++ owners_in one; pool_owners = self.old.pool_owners }) }
+        ensures namings { OnOk result (self.new.namings ≡ self.old.namings ++ namings_in one) }
+        ensures owners { OnOk result (self.new.owners ≡ self.old.owners ++ owners_in one) }
+        ensures pool_owners { self.new.pool_owners ≡ self.old.pool_owners }
         ensures err { OnErr result (self.new ≡ self.old) }
     {
         self.noted.push(one)?;
@@ -54,7 +56,9 @@ impl Gathered {
 
     // Puts what is noted of the pool after the rest.
     fn put_pool(&mut self, one: Noted) -> Result<(), NoMemory>
-        ensures ok { OnOk result (self.new ≡ record self.old { pool_owners = self.old.pool_owners ++ owners_in one }) }
+        ensures namings { self.new.namings ≡ self.old.namings }
+        ensures owners { self.new.owners ≡ self.old.owners }
+        ensures pool_owners { OnOk result (self.new.pool_owners ≡ self.old.pool_owners ++ owners_in one) }
         ensures err { OnErr result (self.new ≡ self.old) }
     {
         self.pool.push(one)?;

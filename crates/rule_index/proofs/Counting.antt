@@ -13,23 +13,24 @@ use Rattle.view_rules.specs.Counts.{is_system_name}
 use Rattle.view_rules.specs.Inodes.{gives_target, target_name, holds_target}
 use Rattle.rule_index.specs.Ids.{has_id, count_in, CountsIds, system_file, target_file}
 
--- the next item has the number that is added
-pub counts-some : {T : Type 0} (id : T → Option ℕ) (items : List T) (i : ℕ) (d : T) (k : ℕ) (old new : List ℕ) → i < length items → id (get_or items i d) ≡ Some k → CountsIds id (take i items) old
-    → ((q : ℕ) → count_in new q ≡ count_in old q + cond (k == q) 1 0) → CountsIds id (take (i + 1) items) new
-counts-some id items i d k old new low has counts more q =
-    let test : has_id id q (get_or items i d) ≡ (k == q) = ap (λ o. passes o (λ n. n == q)) has in
-    let go : (b : Bool) → (k == q) ≡ b → count_in old q + cond b 1 0 ≡ count_by (has_id id q) (take (i + 1) items) =
-    λ b. elim b as (λ b. (k == q) ≡ b → count_in old q + cond b 1 0 ≡ count_by (has_id id q) (take (i + 1) items)) [
-      | true ↦ λ e. omega (arith, counts q, count_by_more_yes (has_id id q) items i d low (test ∙ e))
-      | false ↦ λ e. omega (arith, counts q, count_by_more_no (has_id id q) items i d low (test ∙ e))
+-- the next item has the number, or what else is counted, that is added
+pub counts-some : {T K : Type 0} (same : K → K → Bool) (id : T → Option K) (items : List T) (i : ℕ) (d : T) (k : K) (old new : K → ℕ) → i < length items → id (get_or items i d) ≡ Some k
+    → ((q : K) → old q ≡ count_by (λ x. passes (id x) (λ n. same n q)) (take i items)) → ((q : K) → new q ≡ old q + cond (same k q) 1 0) → (q : K) → new q ≡ count_by (λ x. passes (id x) (λ n. same n q)) (take (i + 1) items)
+counts-some {T} {K} same id items i d k old new low has counts more q =
+    let has_one : T → Bool = λ x. passes (id x) (λ n. same n q) in
+    let test : has_one (get_or items i d) ≡ same k q = ap (λ (o : Option K). passes o (λ n. same n q)) has in
+    let go : (b : Bool) → same k q ≡ b → old q + cond b 1 0 ≡ count_by has_one (take (i + 1) items) =
+    λ b. elim b as (λ b. same k q ≡ b → old q + cond b 1 0 ≡ count_by has_one (take (i + 1) items)) [
+      | true ↦ λ e. omega (arith, counts q, count_by_more_yes has_one items i d low (test ∙ e))
+      | false ↦ λ e. omega (arith, counts q, count_by_more_no has_one items i d low (test ∙ e))
     ] in
-    more q ∙ go (k == q) refl
+    more q ∙ go (same k q) refl
 
--- the next item has no number
-pub counts-none : {T : Type 0} (id : T → Option ℕ) (items : List T) (i : ℕ) (d : T) (ids : List ℕ) → i < length items → id (get_or items i d) ≡ None → CountsIds id (take i items) ids → CountsIds id (take (i + 1) items) ids
-counts-none id items i d ids low has counts q =
-    let test : has_id id q (get_or items i d) ≡ false = ap (λ o. passes o (λ n. n == q)) has in
-    counts q ∙ sym (count_by_more_no (has_id id q) items i d low test)
+-- the next item has none
+pub counts-none : {T K : Type 0} (same : K → K → Bool) (id : T → Option K) (items : List T) (i : ℕ) (d : T) (old : K → ℕ) → i < length items → id (get_or items i d) ≡ None
+    → ((q : K) → old q ≡ count_by (λ x. passes (id x) (λ n. same n q)) (take i items)) → (q : K) → old q ≡ count_by (λ x. passes (id x) (λ n. same n q)) (take (i + 1) items)
+counts-none {T} {K} same id items i d old low has counts q =
+    counts q ∙ sym (count_by_more_no (λ x. passes (id x) (λ n. same n q)) items i d low (ap (λ (o : Option K). passes o (λ n. same n q)) has))
 
 -- tests that are the same count the same
 pub count-same : {X : Type 0} (p q : X → Bool) → ((x : X) → p x ≡ q x) → (xs : List X) → count_by p xs ≡ count_by q xs

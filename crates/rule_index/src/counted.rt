@@ -46,11 +46,11 @@ impl<'a> Counted<'a> {
     pub(crate) fn new(alloc: Global, facts: &'a Facts) -> Result<Counted<'a>, NoMemory>
         ensures { IfOk result (λ made. made.facts.now ≡ facts.now) }
     {
+        let system = tally::<_, BySystemFile>(alloc, &facts.entries)?;
+        let targets = tally::<_, ByTarget>(alloc, &facts.attributes)?;
         let kins = Kins::of(alloc, &facts.inodes)?;
         let counted = Homes::of(alloc, &facts.entries, &kins)?;
         let directories = IdSlice::without_guesses(alloc, &facts.entries);
-        let system = tally::<_, BySystemFile>(alloc, &facts.entries)?;
-        let targets = tally::<_, ByTarget>(alloc, &facts.attributes)?;
         Ok(Counted {
             facts,
             kins,

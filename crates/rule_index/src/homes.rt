@@ -17,14 +17,14 @@ use std::marker::Model;
 use view_facts::EntryFact;
 
 /// How many entries that count name a file, and the directory of one of them.
-#[derive(Clone, Copy, PartialEq, Eq)]
+#[derive(Clone, Copy)]
 pub(crate) struct Home {
     pub(crate) entries: u64,
     pub(crate) directory: u64,
 }
 
 /// Where the entries that count of an inode's file are told.
-#[derive(Clone, Copy, PartialEq, Eq)]
+#[derive(Clone, Copy)]
 pub(crate) enum Told {
     // It has none.
     Nowhere,

@@ -9,7 +9,7 @@ use std::marker::Model;
 use view_facts::InodeFact;
 
 /// The kind of an inode, and the directory that it names as its parent.
-#[derive(Clone, Copy, PartialEq, Eq)]
+#[derive(Clone, Copy)]
 pub(crate) struct Kin {
     pub(crate) kind: u16,
     pub(crate) parent: u64,

@@ -1,12 +1,16 @@
 -- Buffers that are written over, lists that grow by an item, sources that are kept, and errors.
-use Rattle.std.proofs.Common.{◌≡◌, ℕ, ◌+◌, ◌<◌, List, [], ◌∷◌, ◌++◌, length, map, take, drop, get_or, Ok, Err, Bool, cond, Option, ap, sym, ◌∙◌, ◌≤◌, arith}
+use Rattle.std.proofs.Common.{◌≡◌, ℕ, ◌+◌, ◌<◌, List, [], ◌∷◌, ◌++◌, length, map, take, drop, get_or, Ok, Err, Bool, cond, Option, ap, sym, ◌∙◌, ◌≤◌, arith, subst, Result}
 use Rattle.std.proofs.Math.Seq.{take-append_seam}
 use Rattle.std.specs.List.{filter}
 use Rattle.std.proofs.lemmas.List.Elements.{filter_more}
-use Rattle.std.specs.Result.{IsErrOf}
+use Rattle.std.specs.Result.{IfErr, IsErrAnd, IsErrOf}
 use Rattle.std.proofs.lemmas.List.{map_more, append_assoc}
 use Rattle.apfs_model.specs.Counts.{Rose}
 use Rattle.apfs_model.specs.Kept.{IsKept}
+use Rattle.obj_base.specs.Stops.{Tells, IsFree}
+use Rattle.obj_base.specs.declared.stop.Feature.{Feature}
+use Rattle.obj_base.specs.declared.stop.Stop.{Stop}
+use Rattle.obj_base.specs.declared.stop.Stop.TheVariants.{Found, Unsupported, ReadFault, NoMemory}
 
 -- a buffer that is written over whole has what was written
 pub over : (items into : List ℕ) (len : ℕ) → length into ≡ len → take len (into ++ drop (length into) items) ≡ into
@@ -47,3 +51,23 @@ kept-on bytes size faults a b c one two = record {
   same_size = two.same_size ∙ one.same_size;
   later = let x : faults a ≤ faults b = one.later in let y : faults b ≤ faults c = two.later in omega arith;
 }
+
+-- and one that isn't touched
+pub kept-same : {S : Type 0} (bytes : S → Option (List ℕ)) (size faults : S → ℕ) (a : S) → IsKept bytes size faults a a
+kept-same bytes size faults a = record { same_bytes = λ _. bytes a; same_size = λ _. size a; later = omega arith }
+
+-- what stops a call that tells nothing of the image is told as anything
+pub free-told : {T F : Type 0} (r : Result T (Stop F)) (fault : F → Type 0) (feature : Feature → ℕ → Type 0) (stop : Stop F) → IsErrAnd r (λ e. e ≡ stop) → IsFree stop → IfErr r (Tells fault feature)
+free-told (Ok x) fault feature stop e free = tt
+free-told {T} {F} (Err s) fault feature stop e free = subst (Tells fault feature) (sym e) (told stop free)
+  where
+    told : (s : Stop F) → IsFree s → Tells fault feature s
+    told (Found f) free = absurd free
+    told (Unsupported name block) free = absurd free
+    told ReadFault free = tt
+    told NoMemory free = tt
+
+-- want of memory is no failed read
+pub no-read : {T F : Type 0} (r : Result T (Stop F)) → IsErrAnd r (λ e. e ≡ NoMemory) → IsErrOf r ReadFault → ⊥
+no-read (Ok x) e is = no-err x ReadFault is
+no-read (Err s) e is = let q : ⊥ = cc in q

@@ -23,7 +23,7 @@ pub(crate) fn by_id(asked: &mut Vec<Asked>) -> Result<(), AllocError>
     ensures order { OnOk result (IsPermutation asked.old.items asked.new.items) }
     ensures sorted { OnOk result (AreById asked.new.items) }
 {
-    asked.sort_by(|a, b| asked_rank(a, b))?;
+    asked.sort_by(asked_rank)?;
     Ok(())
 }
 
@@ -71,5 +71,5 @@ pub(crate) fn by_use(used: &mut Vec<Used>)
     ensures order { IsPermutation used.old.items used.new.items }
     ensures sorted { IsSortedBy is_used_below used.new.items }
 {
-    used.sort_unstable_by(|a, b| rank(a, b));
+    used.sort_unstable_by(rank);
 }

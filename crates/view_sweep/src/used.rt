@@ -24,7 +24,7 @@ pub enum SharedAs {
 }
 
 /// A record that is used by each view of a set, in one way.
-#[derive(Clone, Copy, PartialEq, Eq)]
+#[derive(Clone, Copy)]
 pub struct Share {
     pub used: Used,
     pub expected: SharedAs,
@@ -47,7 +47,7 @@ pub struct Reach {
 }
 
 /// What is wanted of each view of a set, as it is wanted of one of them, and the record by which it is found in all of them.
-#[derive(Clone, Copy, PartialEq, Eq)]
+#[derive(Clone, Copy)]
 pub(crate) struct Hit {
     pub wanted: Wanted,
     pub mapping: OmapRecord,

@@ -21,7 +21,7 @@ pub struct SweptView {
 }
 
 /// What the superblock of a view names.
-#[derive(Clone, Copy, PartialEq, Eq)]
+#[derive(Clone, Copy)]
 pub struct Head {
     pub view: SweptView,
     /// The id of the root of the view's files.
@@ -43,7 +43,7 @@ pub(crate) enum Want {
 }
 
 /// A virtual object that is wanted of a view.
-#[derive(Clone, Copy, PartialEq, Eq)]
+#[derive(Clone, Copy)]
 pub(crate) struct Wanted {
     pub view: SweptView,
     pub oid: u64,
@@ -79,7 +79,7 @@ impl Wanted {
 }
 
 /// A virtual object that is wanted of each view of a set, as it is wanted of one of them.
-#[derive(Clone, Copy, PartialEq, Eq)]
+#[derive(Clone, Copy)]
 pub(crate) struct Asked {
     pub wanted: Wanted,
     /// The number of the set, of those that are kept.

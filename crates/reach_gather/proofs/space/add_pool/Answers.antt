@@ -9,6 +9,7 @@ use Rattle.reach_rules.specs.declared.naming.Naming.{Naming}
 use Rattle.reach_rules.specs.Next.{unless_zero}
 use Rattle.reach_gather.specs.Space.{manager_namer}
 use Rattle.reach_gather.specs.Adds.{Adds}
+use Rattle.reach_gather.proofs.Noted.{no-err, same-err}
 use Rattle.reach_gather.proofs.Fields.{adds-zero, adds-some}
 use Rattle.reach_gather.proofs.Spaced.{none-pooled}
 use Rattle.reach_gather.proofs.space.add_pool.Goals as goal
@@ -20,16 +21,30 @@ returns-then-oid-eq0-clause-clear g c = λ image told.
     subst (λ (oid : ℕ). Adds image seen (unless_zero me 208 (TreeRoot (FreeQueue Pool)) ByMapping oid) [] c.args.out.now c.args.out.now) c.pool_root-oid.ensures
     (adds-zero image seen me 208 (TreeRoot (FreeQueue Pool)) ByMapping c.pool_root-oid.result c.args.out.now c.if-oid-eq0.true)
 
-pub returns-in-Ok-clause-clear : goal.returns-in-Ok-clause-clear
-returns-in-Ok-clause-clear g c = λ image told.
-    let seen : Seen = c.args.cp.now in
-    let me : Namer = manager_namer seen.nx in
-    subst (λ (oid : ℕ). Adds image seen (unless_zero me 208 (TreeRoot (FreeQueue Pool)) ByMapping oid) [] c.args.out.now c.add_pool_queue.new.out) c.pool_root-oid.ensures
-    (adds-some image seen me 208 (TreeRoot (FreeQueue Pool)) ByMapping c.pool_root-oid.result [] c.args.out.now c.add_pool_queue.new.out c.if-oid-eq0.false
-    (subst (λ (n : Naming). Adds image seen (n ∷ []) [] c.args.out.now c.add_pool_queue.new.out) c.root-root.ensures (c.in-Ok.ensures.clear image told)))
+pub returns-in-Ok : goal.returns-in-Ok
+returns-in-Ok g c = record {
+  clear = (λ image told.
+      let seen : Seen = c.args.cp.now in
+      let me : Namer = manager_namer seen.nx in
+      subst (λ (oid : ℕ). Adds image seen (unless_zero me 208 (TreeRoot (FreeQueue Pool)) ByMapping oid) [] c.args.out.now c.add_pool_queue.new.out) c.pool_root-oid.ensures
+      (adds-some image seen me 208 (TreeRoot (FreeQueue Pool)) ByMapping c.pool_root-oid.result [] c.args.out.now c.add_pool_queue.new.out c.if-oid-eq0.false
+      (subst (λ (n : Naming). Adds image seen (n ∷ []) [] c.args.out.now c.add_pool_queue.new.out) c.root-root.ensures (c.in-Ok.ensures.clear image told))));
+  queued = c.in-Ok.ensures.queued;
+  present = λ image told is. tt;
+  reads = c.in-Ok.ensures.reads;
+  cause = λ e. absurd (no-err _ _ e);
+  kept = c.add_pool_queue.ensures.kept;
+}
 
-pub returns-in-Err-clause-present : goal.returns-in-Err-clause-present
-returns-in-Err-clause-present g c = λ image told is. c.in-Err.ensures.present image told is
+pub returns-in-Err : goal.returns-in-Err
+returns-in-Err g c = record {
+  clear = λ image told. tt;
+  queued = λ image told. tt;
+  present = λ image told is. c.in-Err.ensures.present image told is;
+  reads = λ image told. tt;
+  cause = λ e. c.in-Err.ensures.cause (same-err c.in-Err.stop _ e);
+  kept = c.add_pool_queue.ensures.kept;
+}
 
 pub returns-then-oid-eq0-clause-queued : goal.returns-then-oid-eq0-clause-queued
 returns-then-oid-eq0-clause-queued g c = λ image told. none-pooled image c.args.cp.now c.args.space.now.manager c.pool_root-oid.result c.pool_root-oid.ensures c.if-oid-eq0.true

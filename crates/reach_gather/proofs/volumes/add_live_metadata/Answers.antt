@@ -18,16 +18,15 @@ returns-then-oid-eq0-clause-clear c = λ image seen whole.
     let at : c.volume.inside.snaps_root ≡ c.args.volume.now.snaps_root = ap (λ (v : Loaded). v.snaps_root) c.volume.view_is in
     adds-zero image seen c.args.namer 152 (TreeRoot SnapMetadata) ByBlock c.args.volume.now.snaps_root c.args.out.now (sym at ∙ c.if-oid-eq0.true)
 
-pub returns-clause-clear : goal.returns-clause-clear
-returns-clause-clear c = λ image seen whole.
-    let me : Namer = c.args.namer in
-    let at : c.volume.inside.snaps_root ≡ c.args.volume.now.snaps_root = ap (λ (v : Loaded). v.snaps_root) c.volume.view_is in
-    let steps : c.deref.result.now ≡ c.args.volume.now.snaps_steps = c.deref.ensures.value ∙ ap (λ (v : Loaded). v.snaps_steps) c.volume.view_is in
-    subst (λ (oid : ℕ). Adds image seen (unless_zero me 152 (TreeRoot SnapMetadata) ByBlock oid) [] c.args.out.now c.add_nodes.new.out) at
-    (adds-some image seen me 152 (TreeRoot SnapMetadata) ByBlock c.volume.inside.snaps_root [] c.args.out.now c.add_nodes.new.out c.if-oid-eq0.false
-    (metadata-add image seen c.args.volume.now (naming me 152 (TreeRoot SnapMetadata) ByBlock c.volume.inside.snaps_root) c.deref.result.now c.args.out.now c.add_nodes.new.out whole refl refl at (λ z. c.if-oid-eq0.false (at ∙ z)) steps
-    c.in_ok-add_nodes.ensures.namings c.in_ok-add_nodes.ensures.owners c.add_nodes.ensures.pool_owners))
-
-pub returns-clause-longer : goal.returns-clause-longer
-returns-clause-longer c =
-    noted-longer c.args.out.now.namings c.add_nodes.new.out.namings (node_namings SnapMetadata (naming c.args.namer 152 (TreeRoot SnapMetadata) ByBlock c.volume.inside.snaps_root) c.deref.result.now) c.in_ok-add_nodes.ensures.namings
+pub returns : goal.returns
+returns c = record {
+  clear = (λ image seen whole.
+      let me : Namer = c.args.namer in
+      let at : c.volume.inside.snaps_root ≡ c.args.volume.now.snaps_root = ap (λ (v : Loaded). v.snaps_root) c.volume.view_is in
+      let steps : c.deref.result.now ≡ c.args.volume.now.snaps_steps = c.deref.ensures.value ∙ ap (λ (v : Loaded). v.snaps_steps) c.volume.view_is in
+      subst (λ (oid : ℕ). Adds image seen (unless_zero me 152 (TreeRoot SnapMetadata) ByBlock oid) [] c.args.out.now c.add_nodes.new.out) at
+      (adds-some image seen me 152 (TreeRoot SnapMetadata) ByBlock c.volume.inside.snaps_root [] c.args.out.now c.add_nodes.new.out c.if-oid-eq0.false
+      (metadata-add image seen c.args.volume.now (naming me 152 (TreeRoot SnapMetadata) ByBlock c.volume.inside.snaps_root) c.deref.result.now c.args.out.now c.add_nodes.new.out whole refl refl at (λ z. c.if-oid-eq0.false (at ∙ z)) steps
+      c.in_ok-add_nodes.ensures.namings c.in_ok-add_nodes.ensures.owners c.add_nodes.ensures.pool_owners)));
+  longer = noted-longer c.args.out.now.namings c.add_nodes.new.out.namings (node_namings SnapMetadata (naming c.args.namer 152 (TreeRoot SnapMetadata) ByBlock c.volume.inside.snaps_root) c.deref.result.now) c.in_ok-add_nodes.ensures.namings;
+}

@@ -1,6 +1,6 @@
 use Rattle.std.specs.Prelude.{count_by}
 use Rattle.std.proofs.lemmas.List.{take_all}
-use Rattle.std.proofs.Common.{◌≡◌, ℕ, ◌∙◌, sym, ap, get_or, Vec, Global}
+use Rattle.std.proofs.Common.{◌≡◌, ◌==◌, ℕ, ◌∙◌, sym, ap, get_or, Vec, Global}
 use Rattle.rule_index.specs.Ids.{has_id, count_in}
 use Rattle.rule_index.proofs.Counting.{counts-some, counts-none}
 use Rattle.rule_index.proofs.ids.listed.Goals as goal
@@ -16,10 +16,10 @@ loop-item-preserved g c =
     λ q. elim c.match-id.branch [
       | in-Some+in_ok-add w ↦
           ap (λ (v : Vec ℕ Global). count_in v.items q) w.ids-is
-          ∙ counts-some id items i d w.in-Some.id c.loop-item.ids.items w.add.new.ids.items c.loop-item-test.true (sym next ∙ w.in-Some.is) c.loop-item.invariant w.in_ok-add.ensures q
+          ∙ counts-some (λ n m. n == m) id items i d w.in-Some.id (count_in c.loop-item.ids.items) (count_in w.add.new.ids.items) c.loop-item-test.true (sym next ∙ w.in-Some.is) c.loop-item.invariant w.in_ok-add.ensures q
       | in_default w ↦
           ap (λ (v : Vec ℕ Global). count_in v.items q) w.ids-is
-          ∙ counts-none id items i d c.loop-item.ids.items c.loop-item-test.true (sym next ∙ w.in_default.is) c.loop-item.invariant q
+          ∙ counts-none (λ n m. n == m) id items i d (count_in c.loop-item.ids.items) c.loop-item-test.true (sym next ∙ w.in_default.is) c.loop-item.invariant q
     ]
 
 pub returns : goal.returns

@@ -20,11 +20,11 @@ returns-in-Some-clause-stops c =
     twice-here c.args.views.now c.args.sets.now c.args.asked.now c.args.seen.now.items c.args.from c.args.i c.in-Some.place c.requires.run c.requires.inside here
     (subst (λ (o : Option ℕ). IfSome o (IsClashAt c.args.views.now c.args.sets.now c.args.asked.now c.args.from c.args.i)) c.in-Some.is c.clash.ensures.some)
 
-pub add-requires-clause-runs : goal.add-requires-clause-runs
-add-requires-clause-runs c = c.requires.run.rising
-
-pub add-requires-clause-more : goal.add-requires-clause-more
-add-requires-clause-more c = set-rising c.args.views.now c.args.sets.now c.args.asked.now c.args.i c.runs_of-set.result.now c.requires.sets c.requires.numbers c.requires.inside c.runs_of-set.ensures
+pub add-requires : goal.add-requires
+add-requires c = record {
+  runs = c.requires.run.rising;
+  more = set-rising c.args.views.now c.args.sets.now c.args.asked.now c.args.i c.runs_of-set.result.now c.requires.sets c.requires.numbers c.requires.inside c.runs_of-set.ensures;
+}
 
 pub returns-clause-run : goal.returns-clause-run
 returns-clause-run c =

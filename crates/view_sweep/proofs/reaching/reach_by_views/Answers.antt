@@ -5,26 +5,39 @@ use Rattle.view_sweep.specs.Here.{TellsHere}
 use Rattle.view_sweep.specs.Swept.{IsLive, IsSwept}
 use Rattle.view_sweep.specs.Named.{head_namings}
 use Rattle.view_sweep.specs.Shared.{head_views, AreShares, IsAbove}
+use Rattle.view_sweep.proofs.Buffers.{no-err, same-err}
 use Rattle.view_sweep.proofs.Reached.{reached-as, tells-as, free-as, live-from, mapped-of}
 use Rattle.view_sweep.proofs.Shared.{shared-as}
 use Rattle.view_sweep.proofs.reaching.reach_by_views.Goals as goal
 
-pub returns-in-Ok-clause-clear : goal.returns-in-Ok-clause-clear
-returns-in-Ok-clause-clear g c = λ image told seen of supers.
-    reached-as image seen c.args.volumes.now c.args.heads.now supers (mapped-of image seen c.args.site.now c.args.volumes.now c.args.heads.now of) c.requires.told c.in-Ok.reached.used.items
-    (subst (λ (s : Site). IsSwept (world c.args.volumes.now s image) c.args.heads.now 0 c.in-Ok.reached.used.items) of.site_is (c.in-Ok.ensures.clear image told))
+pub returns-in-Err : goal.returns-in-Err
+returns-in-Err g c = record {
+  clear = λ image told seen of supers. tt;
+  views = λ image told seen of supers. tt;
+  inside = tt;
+  present = λ image told seen of supers live.
+      tells-as image seen c.args.volumes.now c.args.heads.now supers (mapped-of image seen c.args.site.now c.args.volumes.now c.args.heads.now of) (live-from image seen (head_namings supers c.args.heads.now) live) c.in-Err.stop
+      (subst (λ (s : Site). TellsHere (world c.args.volumes.now s image) (IsLive (world c.args.volumes.now s image) c.args.heads.now) c.in-Err.stop) of.site_is (c.in-Err.ensures.present image told));
+  exact = λ image told seen of supers plain once.
+      free-as image seen c.args.volumes.now c.args.heads.now supers (mapped-of image seen c.args.site.now c.args.volumes.now c.args.heads.now of) plain once c.in-Err.stop
+      (subst (λ (s : Site). TellsHere (world c.args.volumes.now s image) (IsLive (world c.args.volumes.now s image) c.args.heads.now) c.in-Err.stop) of.site_is (c.in-Err.ensures.present image told));
+  reads = tt;
+  cause = λ e. c.in-Err.ensures.cause (same-err c.in-Err.stop _ e);
+  kept = c.sweep.ensures.kept;
+}
 
-pub returns-in-Err-clause-present : goal.returns-in-Err-clause-present
-returns-in-Err-clause-present g c = λ image told seen of supers live.
-    tells-as image seen c.args.volumes.now c.args.heads.now supers (mapped-of image seen c.args.site.now c.args.volumes.now c.args.heads.now of) (live-from image seen (head_namings supers c.args.heads.now) live) c.in-Err.stop
-    (subst (λ (s : Site). TellsHere (world c.args.volumes.now s image) (IsLive (world c.args.volumes.now s image) c.args.heads.now) c.in-Err.stop) of.site_is (c.in-Err.ensures.present image told))
-
-pub returns-in-Err-clause-exact : goal.returns-in-Err-clause-exact
-returns-in-Err-clause-exact g c = λ image told seen of supers plain once.
-    free-as image seen c.args.volumes.now c.args.heads.now supers (mapped-of image seen c.args.site.now c.args.volumes.now c.args.heads.now of) plain once c.in-Err.stop
-    (subst (λ (s : Site). TellsHere (world c.args.volumes.now s image) (IsLive (world c.args.volumes.now s image) c.args.heads.now) c.in-Err.stop) of.site_is (c.in-Err.ensures.present image told))
-
-pub returns-in-Ok-clause-views : goal.returns-in-Ok-clause-views
-returns-in-Ok-clause-views g c = λ image told seen of supers.
-    shared-as image seen c.args.volumes.now c.args.heads.now supers (mapped-of image seen c.args.site.now c.args.volumes.now c.args.heads.now of) c.requires.told c.args.site.now.blocks c.in-Ok.reached.sets.items c.in-Ok.reached.shares.items c.in-Ok.ensures.inside
-    (subst (λ (s : Site). AreShares (looked c.args.volumes.now s) (head_views c.args.heads.now) (IsAbove (world c.args.volumes.now s image) c.args.heads.now 0) c.in-Ok.reached.sets.items c.in-Ok.reached.shares.items) of.site_is (c.in-Ok.ensures.shares image told))
+pub returns-in-Ok : goal.returns-in-Ok
+returns-in-Ok g c = record {
+  clear = λ image told seen of supers.
+      reached-as image seen c.args.volumes.now c.args.heads.now supers (mapped-of image seen c.args.site.now c.args.volumes.now c.args.heads.now of) c.requires.told c.in-Ok.reached.used.items
+      (subst (λ (s : Site). IsSwept (world c.args.volumes.now s image) c.args.heads.now 0 c.in-Ok.reached.used.items) of.site_is (c.in-Ok.ensures.clear image told));
+  views = λ image told seen of supers.
+      shared-as image seen c.args.volumes.now c.args.heads.now supers (mapped-of image seen c.args.site.now c.args.volumes.now c.args.heads.now of) c.requires.told c.args.site.now.blocks c.in-Ok.reached.sets.items c.in-Ok.reached.shares.items c.in-Ok.ensures.inside
+      (subst (λ (s : Site). AreShares (looked c.args.volumes.now s) (head_views c.args.heads.now) (IsAbove (world c.args.volumes.now s image) c.args.heads.now 0) c.in-Ok.reached.sets.items c.in-Ok.reached.shares.items) of.site_is (c.in-Ok.ensures.shares image told));
+  inside = c.in-Ok.ensures.inside;
+  present = λ image told seen of supers live. tt;
+  exact = λ image told seen of supers plain once. tt;
+  reads = c.in-Ok.ensures.reads;
+  cause = λ e. absurd (no-err _ _ e);
+  kept = c.sweep.ensures.kept;
+}

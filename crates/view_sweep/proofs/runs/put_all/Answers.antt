@@ -13,11 +13,11 @@ loop-run-init c = record {
   behind = λ j low within. c.requires.behind (get_or c.args.more.now j nowhere) (place-in c.args.more.now j nowhere within);
 }
 
-pub put_run-requires-clause-some : goal.put_run-requires-clause-some
-put_run-requires-clause-some c = c.requires.some (get_or c.args.more.now c.loop-run.run-index nowhere) (place-in c.args.more.now c.loop-run.run-index nowhere c.loop-run-test.true)
-
-pub put_run-requires-clause-behind : goal.put_run-requires-clause-behind
-put_run-requires-clause-behind c = c.loop-run.invariant.behind c.loop-run.run-index (omega arith) c.loop-run-test.true
+pub put_run-requires : goal.put_run-requires
+put_run-requires c = record {
+  some = c.requires.some (get_or c.args.more.now c.loop-run.run-index nowhere) (place-in c.args.more.now c.loop-run.run-index nowhere c.loop-run-test.true);
+  behind = c.loop-run.invariant.behind c.loop-run.run-index (omega arith) c.loop-run-test.true;
+}
 
 pub loop-run-preserved : goal.loop-run-preserved
 loop-run-preserved c =

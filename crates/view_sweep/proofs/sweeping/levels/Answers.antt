@@ -1,5 +1,8 @@
-use Rattle.std.proofs.Common.{◌≡◌, ℕ, suc, ◌+◌, ◌-◌, ◌≤◌, ◌<◌, List, [], ◌++◌, length, Some, arith, subst, ap, ◌∙◌, length-append}
+use Rattle.std.proofs.Common.{◌≡◌, ℕ, suc, ◌+◌, ◌-◌, ◌≤◌, ◌<◌, List, [], ◌++◌, length, Some, arith, sym, subst, ap, ◌∙◌, length-append}
+use Rattle.std.proofs.lemmas.Result.{IfOk-from_err}
 use Rattle.apfs_model.specs.Lists.{In}
+use Rattle.obj_base.specs.Site.{IsSiteFor}
+use Rattle.obj_base.specs.declared.stop.Stop.TheVariants.{NoMemory}
 use Rattle.view_sweep.specs.declared.sets.ViewSet.{ViewSet}
 use Rattle.view_sweep.specs.declared.wanted.SweptView.{SweptView}
 use Rattle.view_sweep.specs.declared.wanted.Head.{Head}
@@ -11,7 +14,7 @@ use Rattle.view_sweep.specs.Here.{Among}
 use Rattle.view_sweep.specs.Sets.{all_asked}
 use Rattle.view_sweep.specs.Shared.{AreShares, IsAbove}
 use Rattle.view_sweep.specs.Swept.{IsLive, IsSwept, IsStep}
-use Rattle.view_sweep.proofs.Buffers.{kept-on, rose-later, same-err}
+use Rattle.view_sweep.proofs.Buffers.{kept-on, rose-later, no-err, same-err, free-told, no-read}
 use Rattle.view_sweep.proofs.Members.{kept-both}
 use Rattle.view_sweep.proofs.Shares.{inside-more, shares-level}
 use Rattle.view_sweep.proofs.Steps.{here-more}
@@ -29,28 +32,6 @@ above-shares : (k : World) (heads : List Head) (views : List SweptView) (level :
 above-shares k heads views level sets shares pos a =
     let s : level ≡ suc (level - 1) = omega arith in
     subst (λ (n : ℕ). AreShares k.look views (IsAbove k heads n) sets shares) s a
-
-pub take_level-requires-clause-sets : goal.take_level-requires-clause-sets
-take_level-requires-clause-sets g c = c.loop-level.invariant.inside.sets_are
-
-pub take_level-requires-clause-numbers : goal.take_level-requires-clause-numbers
-take_level-requires-clause-numbers g c =
-    level-numbered (length c.loop-level.out.sets.items) (length c.args.out.now.sets.items) (c.loop-level.level - 1) c.args.kids.now c.loop-level.current.items c.add_level.new.out.items c.loop-level.invariant.more.more c.in_ok-add_level.ensures c.requires.numbers c.loop-level.invariant.numbers
-
-pub take_level-requires-clause-waiting : goal.take_level-requires-clause-waiting
-take_level-requires-clause-waiting g c = λ a h. absurd (subst (λ (xs : List Asked). In a xs) c.new-below.ensures.items h)
-
-pub returns-in-Err-clause-present : goal.returns-in-Err-clause-present
-returns-in-Err-clause-present g c = λ image given.
-    let k : World = world c.args.volumes.now c.args.site.now image in
-    let heads : List Head = c.args.heads.now in
-    let views : List SweptView = c.args.views.now in
-    let sets : List ViewSet = c.loop-level.out.sets.items in
-    let after : List Asked = c.add_level.new.out.items in
-    let l : IsLevel k heads (c.loop-level.level - 1) (all_asked views sets after) =
-    taken k heads views c.args.out.now.sets.items sets c.args.kids.now c.loop-level.current.items after c.loop-level.level c.loop-level-test.true c.loop-level.invariant.high (c.requires.kids image given) c.loop-level.invariant.more c.requires.numbers (c.loop-level.invariant.waiting image given) c.in_ok-add_level.ensures in
-    here-more k (Among (all_asked views sets after)) (IsLive k heads) (here-live k heads (c.loop-level.level - 1) (all_asked views sets after) l) c.in-Err.stop
-    (c.in-Err.ensures.stops image (c.loop-level.invariant.kept.same_bytes ∙ given))
 
 pub loop-level-preserved : goal.loop-level-preserved
 loop-level-preserved g c =
@@ -94,22 +75,61 @@ loop-level-preserved g c =
           omega arith);
     }
 
-pub returns-clause-shares : goal.returns-clause-shares
-returns-clause-shares g c = λ image told.
-    let none : c.loop-level.level ≡ 0 = omega (arith, c.loop-level-test.false) in
-    subst (λ (n : ℕ). AreShares (looked c.args.volumes.now c.args.site.now) c.args.views.now (IsAbove (world c.args.volumes.now c.args.site.now image) c.args.heads.now n) c.loop-level.out.sets.items c.loop-level.out.shares.items) none
-    (c.loop-level.invariant.shares image told)
+pub returns : goal.returns
+returns g c = record {
+  clear = (λ image told.
+      let z : c.loop-level.level ≡ 0 = omega (arith, c.loop-level-test.false) in
+      subst (λ (n : ℕ). IsSwept (world c.args.volumes.now c.args.site.now image) c.args.heads.now n c.loop-level.out.used.items) z (c.loop-level.invariant.swept image told));
+  shares = (λ image told.
+      let none : c.loop-level.level ≡ 0 = omega (arith, c.loop-level-test.false) in
+      subst (λ (n : ℕ). AreShares (looked c.args.volumes.now c.args.site.now) c.args.views.now (IsAbove (world c.args.volumes.now c.args.site.now image) c.args.heads.now n) c.loop-level.out.sets.items c.loop-level.out.shares.items) none
+      (c.loop-level.invariant.shares image told));
+  inside = c.loop-level.invariant.inside;
+  present = λ image told. tt;
+  reads = c.loop-level.invariant.reads;
+  cause = λ e. absurd (no-err _ _ e);
+  kept = c.loop-level.invariant.kept;
+}
 
-pub returns-clause-clear : goal.returns-clause-clear
-returns-clause-clear g c = λ image told.
-    let z : c.loop-level.level ≡ 0 = omega (arith, c.loop-level-test.false) in
-    subst (λ (n : ℕ). IsSwept (world c.args.volumes.now c.args.site.now image) c.args.heads.now n c.loop-level.out.used.items) z (c.loop-level.invariant.swept image told)
+pub take_level-requires : goal.take_level-requires
+take_level-requires g c = record {
+  site = subst (λ n. IsSiteFor c.args.site.now n) (sym c.loop-level.invariant.kept.same_size) c.requires.site;
+  long = c.loop-level.invariant.long;
+  below = c.requires.below;
+  rising = c.requires.rising;
+  stretches = c.requires.stretches;
+  sets = c.loop-level.invariant.inside.sets_are;
+  numbers = level-numbered (length c.loop-level.out.sets.items) (length c.args.out.now.sets.items) (c.loop-level.level - 1) c.args.kids.now c.loop-level.current.items c.add_level.new.out.items c.loop-level.invariant.more.more c.in_ok-add_level.ensures c.requires.numbers c.loop-level.invariant.numbers;
+  waiting = λ a h. absurd (subst (λ (xs : List Asked). In a xs) c.new-below.ensures.items h);
+}
 
-pub returns-in-Err-clause-cause : goal.returns-in-Err-clause-cause
-returns-in-Err-clause-cause g c = λ e. rose-later (g.S.BlockSource.faults c.args.src.now) (g.S.BlockSource.faults c.loop-level.src) (g.S.BlockSource.faults c.take_level.new.src) c.loop-level.invariant.kept.later (c.in-Err.ensures.cause (same-err c.in-Err.stop _ e))
+pub returns-in-Err : goal.returns-in-Err
+returns-in-Err g c = record {
+  clear = λ image told. tt;
+  shares = λ image told. tt;
+  inside = tt;
+  present = (λ image given.
+      let k : World = world c.args.volumes.now c.args.site.now image in
+      let heads : List Head = c.args.heads.now in
+      let views : List SweptView = c.args.views.now in
+      let sets : List ViewSet = c.loop-level.out.sets.items in
+      let after : List Asked = c.add_level.new.out.items in
+      let l : IsLevel k heads (c.loop-level.level - 1) (all_asked views sets after) =
+      taken k heads views c.args.out.now.sets.items sets c.args.kids.now c.loop-level.current.items after c.loop-level.level c.loop-level-test.true c.loop-level.invariant.high (c.requires.kids image given) c.loop-level.invariant.more c.requires.numbers (c.loop-level.invariant.waiting image given) c.in_ok-add_level.ensures in
+      here-more k (Among (all_asked views sets after)) (IsLive k heads) (here-live k heads (c.loop-level.level - 1) (all_asked views sets after) l) c.in-Err.stop
+      (c.in-Err.ensures.stops image (c.loop-level.invariant.kept.same_bytes ∙ given)));
+  reads = tt;
+  cause = λ e. rose-later (g.S.BlockSource.faults c.args.src.now) (g.S.BlockSource.faults c.loop-level.src) (g.S.BlockSource.faults c.take_level.new.src) c.loop-level.invariant.kept.later (c.in-Err.ensures.cause (same-err c.in-Err.stop _ e));
+  kept = kept-on g.S.BlockSource.bytes g.S.BlockSource.bytes_len g.S.BlockSource.faults c.args.src.now c.loop-level.src c.take_level.new.src c.loop-level.invariant.kept c.take_level.ensures.kept;
+}
 
-pub returns-in_err-extend_from_slice-clause-kept : goal.returns-in_err-extend_from_slice-clause-kept
-returns-in_err-extend_from_slice-clause-kept g c = kept-on g.S.BlockSource.bytes g.S.BlockSource.bytes_len g.S.BlockSource.faults c.args.src.now c.loop-level.src c.take_level.new.src c.loop-level.invariant.kept c.take_level.ensures.kept
-
-pub take_level-requires-clause-below : goal.take_level-requires-clause-below
-take_level-requires-clause-below g c = c.requires.below
+pub returns-in_err-extend_from_slice : goal.returns-in_err-extend_from_slice
+returns-in_err-extend_from_slice g c = record {
+  clear = λ image told. IfOk-from_err c.from_residual-in_err-extend_from_slice.result _ c.from_residual-in_err-extend_from_slice.ensures.0;
+  shares = λ image told. IfOk-from_err c.from_residual-in_err-extend_from_slice.result _ c.from_residual-in_err-extend_from_slice.ensures.0;
+  inside = IfOk-from_err c.from_residual-in_err-extend_from_slice.result _ c.from_residual-in_err-extend_from_slice.ensures.0;
+  present = λ image told. free-told c.from_residual-in_err-extend_from_slice.result _ _ NoMemory c.from_residual-in_err-extend_from_slice.ensures.1 tt;
+  reads = IfOk-from_err c.from_residual-in_err-extend_from_slice.result _ c.from_residual-in_err-extend_from_slice.ensures.0;
+  cause = λ e. absurd (no-read c.from_residual-in_err-extend_from_slice.result c.from_residual-in_err-extend_from_slice.ensures.1 e);
+  kept = kept-on g.S.BlockSource.bytes g.S.BlockSource.bytes_len g.S.BlockSource.faults c.args.src.now c.loop-level.src c.take_level.new.src c.loop-level.invariant.kept c.take_level.ensures.kept;
+}

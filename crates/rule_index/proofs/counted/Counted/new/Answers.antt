@@ -11,20 +11,12 @@ use Rattle.rule_index.specs.Homes.{HasHomes, is_astray}
 use Rattle.rule_index.specs.Ids.{CountsIds, system_file, target_file}
 use Rattle.rule_index.proofs.counted.Counted.new.Goals as goal
 
-pub invariant_of-result-clause-kins_right : goal.invariant_of-result-clause-kins_right
-invariant_of-result-clause-kins_right c = subst (λ (inodes : List (Fact Inode)). HasKins inodes c.in_ok-kins.kins) (c.deref.ensures.value ∙ ap (λ (f : Facts). f.inodes) c.facts.view_is) c.in_ok-kins.ensures
-
-pub invariant_of-result-clause-homes_right : goal.invariant_of-result-clause-homes_right
-invariant_of-result-clause-homes_right c = subst (λ (entries : List (Fact Entry)). HasHomes c.in_ok-kins.kins entries c.in_ok-counted.counted.0) (c.deref-2.ensures.value ∙ ap (λ (f : Facts). f.entries) c.facts.view_is) c.in_ok-counted.ensures.homes
-
-pub invariant_of-result-clause-whole_right : goal.invariant_of-result-clause-whole_right
-invariant_of-result-clause-whole_right c = c.in_ok-counted.ensures.whole ∙ ap (λ (entries : List (Fact Entry)). not (list_any (is_astray c.in_ok-kins.kins) entries)) (c.deref-2.ensures.value ∙ ap (λ (f : Facts). f.entries) c.facts.view_is)
-
-pub invariant_of-result-clause-directories_right : goal.invariant_of-result-clause-directories_right
-invariant_of-result-clause-directories_right c = c.without_guesses-directories.ensures ∙ (c.deref-3.ensures.value ∙ ap (λ (f : Facts). f.entries) c.facts.view_is)
-
-pub invariant_of-result-clause-system_right : goal.invariant_of-result-clause-system_right
-invariant_of-result-clause-system_right c = subst (λ (entries : List (Fact Entry)). CountsIds system_file entries c.in_ok-system.system) (c.deref-4.ensures.value ∙ ap (λ (f : Facts). f.entries) c.facts.view_is) c.in_ok-system.ensures
-
-pub invariant_of-result-clause-targets_right : goal.invariant_of-result-clause-targets_right
-invariant_of-result-clause-targets_right c = subst (λ (attributes : List (Fact Attribute)). CountsIds target_file attributes c.in_ok-targets.targets) (c.deref-5.ensures.value ∙ ap (λ (f : Facts). f.attributes) c.facts.view_is) c.in_ok-targets.ensures
+pub invariant_of-result : goal.invariant_of-result
+invariant_of-result c = record {
+  kins_right = subst (λ (inodes : List (Fact Inode)). HasKins inodes c.in_ok-kins.kins) (c.deref-3.ensures.value ∙ ap (λ (f : Facts). f.inodes) c.facts.view_is) c.in_ok-kins.ensures;
+  homes_right = subst (λ (entries : List (Fact Entry)). HasHomes c.in_ok-kins.kins entries c.in_ok-counted.counted.0) (c.deref-4.ensures.value ∙ ap (λ (f : Facts). f.entries) c.facts.view_is) c.in_ok-counted.ensures.homes;
+  whole_right = c.in_ok-counted.ensures.whole ∙ ap (λ (entries : List (Fact Entry)). not (list_any (is_astray c.in_ok-kins.kins) entries)) (c.deref-4.ensures.value ∙ ap (λ (f : Facts). f.entries) c.facts.view_is);
+  directories_right = c.without_guesses-directories.ensures ∙ (c.deref-5.ensures.value ∙ ap (λ (f : Facts). f.entries) c.facts.view_is);
+  system_right = subst (λ (entries : List (Fact Entry)). CountsIds system_file entries c.in_ok-system.system) (c.deref.ensures.value ∙ ap (λ (f : Facts). f.entries) c.facts.view_is) c.in_ok-system.ensures;
+  targets_right = subst (λ (attributes : List (Fact Attribute)). CountsIds target_file attributes c.in_ok-targets.targets) (c.deref-2.ensures.value ∙ ap (λ (f : Facts). f.attributes) c.facts.view_is) c.in_ok-targets.ensures;
+}
